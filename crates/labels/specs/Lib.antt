@@ -1,0 +1,5 @@
+pub mod Among
+pub mod Kinds
+pub mod Numbers
+pub mod Renames
+pub mod Tags
