@@ -1,5 +1,5 @@
-// Reads a kind's letter and label codes from standard input, and says of each code whether the kind knows it under the
-// renames of the file `renames`, and which earlier code is the same label.
+// Reads a kind's letter and label codes from standard input, and says of each code whether the kind knows it
+// under the renames of the file `renames`, and which earlier code is the same label.
 use judging::MOST_INPUT;
 use judging::check_input;
 use judging::files::read_input;

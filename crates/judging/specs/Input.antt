@@ -1,4 +1,4 @@
--- What is read before a stream is judged: the length of the input, its kind's letter, and the file of renames.
+-- What is read before a stream is judged: the length of the input, its kind's letter, the file of renames.
 use Prim.Native.Nat.{ℕ, zero, suc, _+_, _*_, _/_, _%_}
 use mathlib.Core.Bool.{Bool, cond, _&&_, _||_, not}
 use mathlib.Core.List.{List, [], _∷_, _++_}

@@ -1,4 +1,4 @@
-// What the program does before it judges: the length of the input, the letter, the file of renames, the refusals.
+// What the program does before it judges: the length of the input, the letter, the file of renames.
 ghost use Prim.Native.Nat.{ℕ, _+_, _*_, _<_, _≤_};
 ghost use mathlib.Core.Path.{_≡_};
 ghost use lib.ListN.{length};
@@ -7,7 +7,8 @@ ghost use Rattle.std.specs.Results.{Cases};
 ghost use Rattle.std.specs.Vec.{made};
 ghost use Rattle.labels.specs.Renames.{kind-below};
 ghost use Rattle.records.specs.Refusals.{number-of, detail-of};
-ghost use Rattle.judging.specs.Input.{input-answer, for-tags, code-at, codes-held, pair-at, renames-read, pairs-told};
+ghost use Rattle.judging.specs.Input.{input-answer, for-tags, code-at, codes-held, pair-at};
+ghost use Rattle.judging.specs.Input.{renames-read, pairs-told};
 
 pub mod files;
 pub mod line;

@@ -1,4 +1,4 @@
--- How a code stands among the codes before it: unknown, the first of its label, or the same as an earlier one.
+-- How a code stands among the codes before it: unknown, first of its label, or the same as an earlier one.
 use Prim.Native.Nat.{ℕ, _+_}
 use mathlib.Core.Bool.{Bool, true, false, cond}
 use mathlib.Core.List.{List, [], _∷_}

@@ -1,4 +1,4 @@
--- A layer of renames: its pairs, what they make of a code, and what the call that adds one answers and leaves.
+-- A layer of renames: its pairs, what they make of a code, and what the call that adds one does.
 use Prim.Native.Nat.{ℕ}
 use mathlib.Core.Bool.{Bool, true, false, cond}
 use mathlib.Core.List.{List, [], _∷_, _++_}
@@ -31,7 +31,8 @@ held-old (p ∷ ps) code = cond (eqb (p .old) code) true (held-old ps code)
 
 -- a pair is refused where 16 are held, and then where its old code is held already
 abbrev pub rename-answer : List Pair → ℕ → Result (Unit {0}) Refusal
-rename-answer ps old = cond (leb 16 (length ps)) (Err PairsFull) (cond (held-old ps old) (Err (OldHeld old)) (Ok tt))
+rename-answer ps old =
+    cond (leb 16 (length ps)) (Err PairsFull) (cond (held-old ps old) (Err (OldHeld old)) (Ok tt))
 
 -- a pair that is not refused comes last
 abbrev pub renamed : Result (Unit {0}) Refusal → List Pair → Pair → List Pair

@@ -30,12 +30,14 @@ fourth-byte code = code % 256
 abbrev pub is-tag : ℕ → Bool
 is-tag code =
     tag-character (first-byte code)
-    && (tag-character (second-byte code) && (tag-character (third-byte code) && tag-character (fourth-byte code)))
+    && (tag-character (second-byte code)
+    && (tag-character (third-byte code) && tag-character (fourth-byte code)))
 
 -- the number of the four bytes once small letters have become capitals
 abbrev pub raised-code : ℕ → ℕ
 raised-code code =
-    code-from (raised (first-byte code)) (raised (second-byte code)) (raised (third-byte code)) (raised (fourth-byte code))
+    code-from (raised (first-byte code)) (raised (second-byte code)) (raised (third-byte code))
+    (raised (fourth-byte code))
 
 -- the value of a code
 abbrev pub tag-value : ℕ → Option ℕ

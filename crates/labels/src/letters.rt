@@ -1,5 +1,6 @@
-// The letters at each concrete kind, by the constant and by the method, and at the layer of renames over it. (What a
-// layer's constant is stays open to contracts, since it is taken over from a parameter: a test compares it.)
+// The letters at each concrete kind, by the constant and by the method, and at the layer of renames over it.
+// (What a layer's constant is stays open to contracts, since it is taken over from a parameter: a test
+// compares it.)
 ghost use mathlib.Core.Path.{_≡_};
 ghost use Prim.Native.Nat.{ℕ};
 use super::kind::Kind;

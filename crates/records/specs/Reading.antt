@@ -1,4 +1,4 @@
--- How the bytes of a record are read: two mark bytes, the fields, and for a model whatever comes after its count.
+-- How the bytes of a record are read: two mark bytes, the fields, and a model's bytes after its count.
 use Prim.Native.Nat.{ℕ, _+_, _*_}
 use mathlib.Core.Bool.{Bool, cond, _&&_}
 use mathlib.Core.List.{List}
@@ -47,7 +47,13 @@ code-from a b c d = ((a * 256 + b) * 256 + c) * 256 + d
 -- the fields of each record, by their places
 abbrev pub header-of : List ℕ → Header
 header-of bs =
-    record { letter = byte bs 2; labels = byte bs 3; free = byte bs 4; terms = byte bs 5; constraints = byte bs 6 }
+    record {
+      letter = byte bs 2;
+      labels = byte bs 3;
+      free = byte bs 4;
+      terms = byte bs 5;
+      constraints = byte bs 6;
+    }
 
 abbrev pub code-of : List ℕ → ℕ
 code-of bs = code-from (byte bs 2) (byte bs 3) (byte bs 4) (byte bs 5)
@@ -58,11 +64,25 @@ term-of bs =
 
 abbrev pub constraint-of : List ℕ → ConstraintRow
 constraint-of bs =
-    record { form = byte bs 2; sign = byte bs 3; term = byte bs 4; a = byte bs 5; b = byte bs 6; c = byte bs 7; d = byte bs 8 }
+    record {
+      form = byte bs 2;
+      sign = byte bs 3;
+      term = byte bs 4;
+      a = byte bs 5;
+      b = byte bs 6;
+      c = byte bs 7;
+      d = byte bs 8;
+    }
 
 abbrev pub step-of : List ℕ → Step
 step-of bs =
-    record { rule = byte bs 2; p = byte bs 3 * 256 + byte bs 4; q = byte bs 5 * 256 + byte bs 6; t = byte bs 7; w = byte bs 8 }
+    record {
+      rule = byte bs 2;
+      p = byte bs 3 * 256 + byte bs 4;
+      q = byte bs 5 * 256 + byte bs 6;
+      t = byte bs 7;
+      w = byte bs 8;
+    }
 
 -- SH with 7 bytes is a header
 abbrev pub header-in : List ℕ → Option Header

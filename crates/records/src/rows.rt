@@ -31,8 +31,8 @@ pub struct ConstraintRow {
     pub d: u8,
 }
 
-// A fact, and so a constraint that was granted. Form 1: the names a, b, .. are in the term; form 2: a and b are
-// equal; form 3: the term equals the term numbered a.
+// A fact, and so a constraint that was granted. Form 1: the names a, b, .. are in the term; form 2: a and b
+// are equal; form 3: the term equals the term numbered a.
 #[derive(Clone, Copy)]
 pub struct Fact {
     pub form: u8,

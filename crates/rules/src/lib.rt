@@ -7,8 +7,8 @@ ghost use Rattle.rules.specs.Rules.{alternative-of, alternatives-of};
 ghost use Rattle.rules.specs.Looked.{rule-of, uses, untouched, zeros-kept};
 
 pub mod cited;
-pub mod outcome;
 mod fact;
+pub mod outcome;
 mod tuple;
 
 use cited::Alt;
