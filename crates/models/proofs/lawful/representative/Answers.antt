@@ -1,0 +1,7 @@
+use mathlib.Core.Path.{sym}
+use native.Mathlib.Omega.{arith}
+use Rattle.std.proofs.shelf.Lists.{getD-past}
+use Rattle.models.proofs.lawful.representative.Needs as need
+
+pub returns-else-e-representatives : need.returns-else-e-representatives
+returns-else-e-representatives c = sym (getD-past (c .args .representatives .now) (c .args .e) 0 (omega arith))
