@@ -1,4 +1,6 @@
-// Holds what ties the plain records to the calculus: the theorems stand in specs/, their proofs in proofs/.
+//! Holds what ties the plain records to the calculus: the theorems stand in specs/, their proofs in proofs/.
+#![tactic(auto)]
+
 ghost use Rattle.calls.specs.Bridge.{Bridged};
 ghost use Rattle.calls.specs.Granted.{Granted};
 ghost use Rattle.calls.specs.Fitting.{RoomTold};

@@ -1,5 +1,7 @@
-// Reads a kind's letter and label codes from standard input, and says of each code whether the kind knows it
-// under the renames of the file `renames`, and which earlier code is the same label.
+//! Reads a kind's letter and label codes from standard input, and says of each code whether the kind knows it
+//! under the renames of the file `renames`, and which earlier code is the same label.
+#![tactic(auto)]
+
 use anyhow::anyhow;
 use judging::files::{read_input, read_renames_file};
 use judging::{MOST_INPUT, check_input, read_codes, read_renames, refused_early};

@@ -1,4 +1,6 @@
-// What the program does before it judges: the length of the input, the letter, the file of renames.
+//! What the program does before it judges: the length of the input, the letter, the file of renames.
+#![tactic(auto)]
+
 ghost use Rattle.std.specs.Prelude.{◌≡◌, ℕ, ◌+◌, ◌*◌, ◌<◌, ◌≤◌, length, IfOk};
 ghost use Rattle.labels.specs.Renames.{kind_below};
 ghost use Rattle.records.specs.Refusals.{number_of, detail_of};

@@ -1,4 +1,6 @@
-// Kinds of label: what a code means, numbers, tags, and the layer of renames over any kind.
+//! Kinds of label: what a code means, numbers, tags, and the layer of renames over any kind.
+#![tactic(auto)]
+
 pub mod among;
 pub mod kind;
 pub mod letters;

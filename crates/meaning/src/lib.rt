@@ -1,4 +1,6 @@
-// What sheets mean, and that the calculus, its models and their listings tell the truth about them.
+//! What sheets mean, and that the calculus, its models and their listings tell the truth about them.
+#![tactic(auto)]
+
 ghost use Rattle.meaning.specs.Reading.{ReadsBack, ReadsOnly};
 ghost use Rattle.meaning.specs.Law.{LawOfVerdicts};
 

@@ -1,5 +1,7 @@
-// The check of a model: whether its representatives are lawful, whether the values of all terms fit, and
-// which constraint is the first false one.
+//! The check of a model: whether its representatives are lawful, whether the values of all terms fit, and
+//! which constraint is the first false one.
+#![tactic(auto)]
+
 ghost use Rattle.std.specs.Prelude.{◌<◌, ◌≤◌, length};
 ghost use Rattle.models.specs.Checks.{Judged, Answers, Satisfying};
 

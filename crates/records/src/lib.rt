@@ -1,4 +1,6 @@
-// The plain records that all layers share: what a byte record says, rows, facts, rules, verdicts, refusals.
+//! The plain records that all layers share: what a byte record says, rows, facts, rules, verdicts, refusals.
+#![tactic(auto)]
+
 ghost use Rattle.std.specs.Prelude.{◌≡◌, ℕ};
 ghost use Rattle.records.specs.Reading.{header_in, row_in, step_in, seen, code_from};
 ghost use Rattle.records.specs.Refusals.{number_of, detail_of, room_number};

@@ -1,5 +1,7 @@
-// The rules of the calculus on plain records: which rule a number names, which fields it mentions, whether
-// its line is met, and its alternatives. Nothing here sees a store or a kind of label.
+//! The rules of the calculus on plain records: which rule a number names, which fields it mentions, whether
+//! its line is met, and its alternatives. Nothing here sees a store or a kind of label.
+#![tactic(auto)]
+
 ghost use Rattle.std.specs.Prelude.{◌≡◌, ◌≤◌};
 ghost use Rattle.rules.specs.Rules.{line_met, self_unequal, negated_by, has_place, has_side, labels_are};
 ghost use Rattle.rules.specs.Rules.{alternative_of, alternatives_of};

@@ -1,4 +1,6 @@
-// The stores that a caller lends: whether they are large enough, writers for one place, and the trail.
+//! The stores that a caller lends: whether they are large enough, writers for one place, and the trail.
+#![tactic(auto)]
+
 ghost use Rattle.std.specs.Prelude.{◌≡◌, ◌<◌, T, length, slice_set};
 ghost use Rattle.calls.specs.Stores.{Enough, enough, with_labels, with_terms, with_facts, with_forks};
 ghost use Rattle.stores.specs.View.{held, tuples_of, Same};

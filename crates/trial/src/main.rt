@@ -1,4 +1,6 @@
-// The program: judges the stream on standard input, under the renames of the file `renames`.
+//! The program: judges the stream on standard input, under the renames of the file `renames`.
+#![tactic(auto)]
+
 use anyhow::anyhow;
 use judging::files::{read_input, read_renames_file};
 use judging::{MOST_INPUT, check_input, is_for_tags, read_renames, refused_early};

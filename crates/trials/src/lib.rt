@@ -1,4 +1,6 @@
-// A trial of a sheet: steps by rules on lent stores, its verdict, and what is left once it is settled.
+//! A trial of a sheet: steps by rules on lent stores, its verdict, and what is left once it is settled.
+#![tactic(auto)]
+
 mod firsts;
 mod looks;
 mod room;

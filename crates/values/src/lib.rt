@@ -1,5 +1,7 @@
-// Values of terms: duplicate-free runs of tuples that lie one after another in a lent store, the one function
-// that puts a tuple in, and the operations that fill a new value from earlier ones.
+//! Values of terms: duplicate-free runs of tuples that lie one after another in a lent store, the one function
+//! that puts a tuple in, and the operations that fill a new value from earlier ones.
+#![tactic(auto)]
+
 ghost use Rattle.std.specs.Prelude.{◌≡◌, ◌+◌, ◌<◌, ◌≤◌, true, false, [], length};
 ghost use Rattle.std.specs.List.{flat_map};
 ghost use Rattle.values.specs.Sets.{has, put, puts, In};
