@@ -2,7 +2,7 @@
 -- terms then have, which constraint is the first false one, and what a model is answered.
 use Rattle.std.specs.Prelude.{ℕ, zero, suc, ◌+◌, Bool, true, false, cond, not, ◌&&◌, ◌||◌, ◌⊎◌, ◌↔◌, List, [], ◌∷◌, map, length, Ok, Err, Result, ◌==◌, nat_le}
 use Rattle.std.proofs.Common.{inl, inr}
-use Rattle.std.proofs.Math.Logic.{Dec·not}
+use Rattle.std.proofs.Math.Logic.Dec
 use mathlib.Core.List.{Memᴰ as Mem}
 use Rattle.std.proofs.Math.Option.{Option, none, some}
 use Rattle.std.proofs.Math.Decide.{ℕ_discrete}
@@ -106,7 +106,7 @@ holds_dec d I rows e (same s r) = same_dec d I rows s r
 unfoldable pub sat_dec : {A : Type 0} (d : Discrete A) (I : Interp A) (rows : List Row) (e : ℕ → A)
     (g : Bool) (f : Form) → Dec (Sat rows I e g f)
 sat_dec d I rows e true f = holds_dec d I rows e f
-sat_dec d I rows e false f = Dec·not (holds_dec d I rows e f)
+sat_dec d I rows e false f = Dec.not (holds_dec d I rows e f)
 
 -- The constraint c is true under the interpretation I over numbers.
 abbrev pub is_true : Sheet → Interp ℕ → Fact → Bool

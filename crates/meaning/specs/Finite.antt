@@ -3,7 +3,8 @@ use Rattle.std.specs.Prelude.{◌≡◌, ℕ, ◌⊎◌, ◌↔◌, List, [], �
 use Rattle.std.proofs.Math.Path.{refl, sym, ap, ap₂, subst}
 use Rattle.std.proofs.Common.{◌∙◌, arith, inl, inr}
 use Rattle.std.proofs.lemmas.List.{same_from_push}
-use Rattle.std.proofs.Math.Logic.{⊎_elim, Dec·not}
+use Rattle.std.proofs.Math.Logic.{⊎_elim}
+use Rattle.std.proofs.Math.Logic.Dec
 use mathlib.Core.List.{reverse-reverse, Memᴰ as Mem}
 use mathlib.Core.List.Memᴰ
 use mathlib.Core.List.{head-eq_of_cons-eq, tail-eq_of_cons-eq}
@@ -216,7 +217,7 @@ module _ {A : Type 0} (d : Discrete A) where
   finite I (Single v) = one_of (map I.name v) refl (λ u e. e)
   finite I (Union s r) = either (finite I s) (finite I r)
   finite I (Inter s r) = kept (finite I s) (finite_dec (tuple_dec d) (finite I r))
-  finite I (Diff s r) = kept (finite I s) (λ u. Dec·not (finite_dec (tuple_dec d) (finite I r) u))
+  finite I (Diff s r) = kept (finite I s) (λ u. Dec.not (finite_dec (tuple_dec d) (finite I r) u))
   finite I (Transp s) =
       remap (image (finite I s) reverse)
       (λ u p. subst (In I s) (sym (reverse-reverse p.0) ∙ ap reverse p.2) p.1)

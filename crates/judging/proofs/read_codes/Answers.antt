@@ -4,7 +4,7 @@ use Rattle.judging.proofs.read_codes.Goals as goal
 
 pub loop-i-preserved : goal.loop-i-preserved
 loop-i-preserved c =
-    c.in-ok-push.ensures.items
-    ∙ ap (λ (l : List ℕ). l ++ (c.code-at.result ∷ [])) c.loop-i.invariant
-    ∙ ap (λ (x : ℕ). codes_from c.args.bytes.now c.loop-i.i ++ (x ∷ [])) c.code-at.ensures
+    c.in_ok-push.ensures.items
+    ∙ ap (λ (l : List ℕ). l ++ (c.code_at.result ∷ [])) c.loop-i.invariant
+    ∙ ap (λ (x : ℕ). codes_from c.args.bytes.now c.loop-i.i ++ (x ∷ [])) c.code_at.ensures
     ∙ ap (codes_from c.args.bytes.now) (sym (add-one c.loop-i.i))

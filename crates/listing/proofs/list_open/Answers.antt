@@ -9,39 +9,39 @@ use Rattle.listing.proofs.list_open.Goals as goal
 pub returns-then-out-needed : goal.returns-then-out-needed
 returns-then-out-needed c =
     let bs = text (open_lines c.args.g c.args.representatives.now c.args.terms.now c.args.facts.now) in
-    let m = c.open-size-needed.ensures.most in
+    let m = c.open_size-needed.ensures.most in
     record {
-      lists = short c.args.out.now bs c.open-size-needed.result c.open-size-needed.ensures.size c.if-out-needed.true;
+      lists = short c.args.out.now bs c.open_size-needed.result c.open_size-needed.ensures.size c.if-out-needed.true;
       within = tt;
       heard = tt;
       fits = λ h k. let n = m h in absurd (omega arith);
     }
 
-pub put-at-requires : goal.put-at-requires
-put-at-requires c =
+pub put_at-requires : goal.put_at-requires
+put_at-requires c =
     let l = open_length c.args.g c.args.representatives.now c.args.terms.now c.args.facts.now in
-    let s = c.open-size-needed.ensures.size in
+    let s = c.open_size-needed.ensures.size in
     omega arith
 
-pub put-names-at-requires : goal.put-names-at-requires
-put-names-at-requires c =
+pub put_names-at-requires : goal.put_names-at-requires
+put_names-at-requires c =
     let l = open_length c.args.g c.args.representatives.now c.args.terms.now c.args.facts.now in
-    let s = c.open-size-needed.ensures.size in
-    let p = c.put-at.ensures.place in
+    let s = c.open_size-needed.ensures.size in
+    let p = c.put_at.ensures.place in
     (c.requires.0, omega arith)
 
-pub put-facts-requires : goal.put-facts-requires
-put-facts-requires c =
+pub put_facts-requires : goal.put_facts-requires
+put_facts-requires c =
     let l = open_length c.args.g c.args.representatives.now c.args.terms.now c.args.facts.now in
-    let s = c.open-size-needed.ensures.size in
-    let p = c.put-at.ensures.place in
-    let q = c.put-names-at.ensures.place in
+    let s = c.open_size-needed.ensures.size in
+    let p = c.put_at.ensures.place in
+    let q = c.put_names-at.ensures.place in
     omega arith
 
 pub returns : goal.returns
 returns c =
     let ls = open_lines c.args.g c.args.representatives.now c.args.terms.now c.args.facts.now in
-    let s = c.open-size-needed.ensures.size in
-    let w = wrote_as _ (open_text c.args.g c.args.representatives.now c.args.terms.now c.args.facts.now) (wrote_more (wrote_more c.put-at.ensures c.put-names-at.ensures) c.put-facts.ensures) in
+    let s = c.open_size-needed.ensures.size in
+    let w = wrote_as _ (open_text c.args.g c.args.representatives.now c.args.terms.now c.args.facts.now) (wrote_more (wrote_more c.put_at.ensures c.put_names-at.ensures) c.put_facts.ensures) in
     let t = told c.args.out.now ls _ _ (omega arith) w in
     record { lists = t.lists; within = t.within; heard = t.heard; fits = λ h k. refl }

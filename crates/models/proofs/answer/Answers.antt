@@ -13,9 +13,9 @@ returns g c free fair len =
     let facts = c.args.facts.now in
     let same : c.args.count ≡ c.args.names = omega arith in
     let P = sheet_of c.args.labels.now free c.args.terms.now facts c.args.constraints in
-    let none = c.in-default.ensures in
-    subst (λ (i : ℕ). c.judge-values.result ≡ judged (read_sheet P) (named_by P facts rs) i)
+    let none = c.in_default.ensures in
+    subst (λ (i : ℕ). c.judge_values.result ≡ judged (read_sheet P) (named_by P facts rs) i)
     (length-take-le 4096 c.args.tuples.now c.requires.room)
-    (c.judge-values.ensures c.args.labels.now free c.args.names
+    (c.judge_values.ensures c.args.labels.now free c.args.names
     (record { fair = fair; zero_kept = zero_stays K c.args.labels.now rs c.args.names none (len ∙ same) }))
     ∙ answered_by K c.args.labels.now c.args.terms.now facts c.args.constraints c.args.names c.args.count rs free same none

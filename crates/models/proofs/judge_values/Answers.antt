@@ -6,8 +6,8 @@ use Rattle.models.specs.Checks.{judged}
 use Rattle.models.proofs.Judging.{laid_spans, judged_over, judged_by}
 use Rattle.models.proofs.judge_values.Goals as goal
 
-pub first-false-requires : goal.first-false-requires
-first-false-requires c =
+pub first_false-requires : goal.first_false-requires
+first_false-requires c =
     let valued = c.if-not-evaluate.ensures in
     record {
       long = omega (arith, c.evaluate.auto.ends, c.requires.long);

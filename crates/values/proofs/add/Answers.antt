@@ -3,9 +3,9 @@ use Rattle.values.proofs.Segments.{filled_full}
 use Rattle.values.proofs.Tuples.{stood, added}
 use Rattle.values.proofs.add.Goals as goal
 
-pub returns-in-default : goal.returns-in-default
-returns-in-default c =
-    let f = c.in-default.ensures in
+pub returns-in_default : goal.returns-in_default
+returns-in_default c =
+    let f = c.in_default.ensures in
     rw f.2 (filled_full same_tuple _ _ _ _ c.requires.low c.requires.room f.1 f.0)
 
 pub returns-then-placed : goal.returns-then-placed

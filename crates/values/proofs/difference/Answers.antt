@@ -7,4 +7,4 @@ pub returns : goal.returns
 returns c =
     let s = value c.args.store.now c.args.s.from c.args.s.to in
     let r = value c.args.store.now c.args.r.from c.args.r.to in
-    filled_gathered same_tuple same_law _ _ (without_from s r) (without_to s r) _ _ _ _ c.requires.room c.fill-sifted.ensures
+    filled_gathered same_tuple same_law _ _ (without_from s r) (without_to s r) _ _ _ _ c.requires.room c.fill_sifted.ensures

@@ -6,15 +6,15 @@ use Rattle.values.proofs.fill_pairs.Goals as goal
 pub loop-i-init : goal.loop-i-init
 loop-i-init c = going_new c.requires.room
 
-pub returns-in-default : goal.returns-in-default
-returns-in-default c =
+pub returns-in_default : goal.returns-in_default
+returns-in_default c =
     going_over c.loop-i.invariant (read_at no_tuple c.loop-i.invariant c.loop-i-test.true c.requires.left.last)
-    (paired_kept _ _ _ c.args.r c.loop-i.invariant.kept c.requires.right c.args.join _ _ c.pair-with-m.ensures) c.in-default.ensures
+    (paired_kept _ _ _ c.args.r c.loop-i.invariant.kept c.requires.right c.args.join _ _ c.pair_with-m.ensures) c.in_default.ensures
 
 pub loop-i-preserved : goal.loop-i-preserved
 loop-i-preserved c =
     going_more c.loop-i.invariant (read_at no_tuple c.loop-i.invariant c.loop-i-test.true c.requires.left.last)
-    (paired_kept _ _ _ c.args.r c.loop-i.invariant.kept c.requires.right c.args.join _ _ c.pair-with-m.ensures) c.in-Some.ensures
+    (paired_kept _ _ _ c.args.r c.loop-i.invariant.kept c.requires.right c.args.join _ _ c.pair_with-m.ensures) c.in-Some.ensures
 
 pub returns : goal.returns
 returns c = going_end c.loop-i.invariant (short _ _ _ c.loop-i-test.false)

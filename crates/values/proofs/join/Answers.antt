@@ -8,4 +8,4 @@ pub returns : goal.returns
 returns c =
     let s = value c.args.store.now c.args.s.from c.args.s.to in
     let r = value c.args.store.now c.args.r.from c.args.r.to in
-    filled_gathered same_tuple same_law _ _ (paired_from true c.args.p s r) (paired_to true c.args.p s r) _ _ _ _ c.requires.room c.fill-pairs.ensures
+    filled_gathered same_tuple same_law _ _ (paired_from true c.args.p s r) (paired_to true c.args.p s r) _ _ _ _ c.requires.room c.fill_pairs.ensures

@@ -7,13 +7,13 @@ use Rattle.values.proofs.Tuples.{same_law}
 use Rattle.values.proofs.Relations.{filled_gathered, filled_new, filled_then, over_then, made, either_from, either_to}
 use Rattle.values.proofs.union.Goals as goal
 
-pub returns-in-default : goal.returns-in-default
-returns-in-default c =
+pub returns-in_default : goal.returns-in_default
+returns-in_default c =
     let xs = c.args.store.now in
     let s = value xs c.args.s.from c.args.s.to in
     let r = value xs c.args.r.from c.args.r.to in
     filled_gathered same_tuple same_law _ _ (either_from s r) (either_to s r) xs _ _ None c.requires.room
-    (over_then same_tuple xs c.args.start (made Same s) (made Same r) _ (filled_new same_tuple xs c.args.start (made Same s) _ None c.in-default.ensures))
+    (over_then same_tuple xs c.args.start (made Same s) (made Same r) _ (filled_new same_tuple xs c.args.start (made Same s) _ None c.in_default.ensures))
 
 pub returns : goal.returns
 returns c =

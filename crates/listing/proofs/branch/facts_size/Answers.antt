@@ -9,7 +9,7 @@ use Rattle.listing.proofs.Pieces.{text_pieces}
 use Rattle.listing.proofs.branch.facts_size.Goals as goal
 
 pub loop-i-preserved : goal.loop-i-preserved
-loop-i-preserved c = (length-next (λ f. text (fact_lines c.args.representatives.now c.args.terms.now f)) c.args.facts.now c.loop-i.i no_fact _ _ c.loop-i-test.true c.loop-i.invariant.0 c.fact-size-size.ensures.size, let m = c.fact-size-size.ensures.most in let n = c.loop-i.invariant.1 in omega arith)
+loop-i-preserved c = (length-next (λ f. text (fact_lines c.args.representatives.now c.args.terms.now f)) c.args.facts.now c.loop-i.i no_fact _ _ c.loop-i-test.true c.loop-i.invariant.0 c.fact_size-size.ensures.size, let m = c.fact_size-size.ensures.most in let n = c.loop-i.invariant.1 in omega arith)
 
 pub returns : goal.returns
 returns c =

@@ -19,15 +19,15 @@ put-to-requires c =
     let m = room c.args.numbers.now c.loop-i.i c.args.count c.loop-i-test.true c.requires.0 in
     omega arith
 
-pub put-number-to-requires : goal.put-number-to-requires
-put-number-to-requires c =
+pub put_number-to-requires : goal.put_number-to-requires
+put_number-to-requires c =
     let m = room c.args.numbers.now c.loop-i.i c.args.count c.loop-i-test.true c.requires.0 in
     omega arith
 
 pub loop-i-preserved : goal.loop-i-preserved
 loop-i-preserved c =
     let l : c.loop-i.i < length c.args.numbers.now = omega arith in
-    wrote_as _ (append_assoc (flat_map spaced (take c.loop-i.i c.args.numbers.now)) (32 ∷ []) (numeral (get_or c.args.numbers.now c.loop-i.i 0)) ∙ sym (joined_next spaced c.args.numbers.now c.loop-i.i 0 l)) (wrote_more (wrote_more c.loop-i.invariant c.put-to.ensures) c.put-number-to.ensures)
+    wrote_as _ (append_assoc (flat_map spaced (take c.loop-i.i c.args.numbers.now)) (32 ∷ []) (numeral (get_or c.args.numbers.now c.loop-i.i 0)) ∙ sym (joined_next spaced c.args.numbers.now c.loop-i.i 0 l)) (wrote_more (wrote_more c.loop-i.invariant c.put-to.ensures) c.put_number-to.ensures)
 
 pub returns : goal.returns
 returns c =

@@ -9,6 +9,6 @@ pub returns-in-Member : goal.returns-in-Member
 returns-in-Member c =
     let v = value c.args.store.now c.args.s.from c.args.s.to in
     rw c.in-Member.is (
-      λ e. subst (In v) c.tuple-of.ensures (has_in same_tuple same_law v c.tuple-of.result (sym c.contains.ensures ∙ e)),
-      λ m. c.contains.ensures ∙ in_has same_tuple same_law v c.tuple-of.result (subst (In v) (sym c.tuple-of.ensures) m),
+      λ e. subst (In v) c.tuple_of.ensures (has_in same_tuple same_law v c.tuple_of.result (sym c.contains.ensures ∙ e)),
+      λ m. c.contains.ensures ∙ in_has same_tuple same_law v c.tuple_of.result (subst (In v) (sym c.tuple_of.ensures) m),
     )

@@ -12,8 +12,8 @@ pub loop-k-init : goal.loop-k-init
 loop-k-init c =
     valued_none c.args.representatives.now c.args.facts.now c.args.terms.now c.args.store.now c.args.ends.now (omega arith)
 
-pub evaluate-row-requires : goal.evaluate-row-requires
-evaluate-row-requires c =
+pub evaluate_row-requires : goal.evaluate_row-requires
+evaluate_row-requires c =
     let below = below_span c.loop-k.k c.loop-k.store c.loop-k.ends c.loop-k.invariant.laid in
     record {
       room = c.loop-k.invariant.laid.room;
@@ -21,11 +21,11 @@ evaluate-row-requires c =
       right = subst (λ (s : Span). Below s (get_or c.loop-k.ends c.loop-k.k 0)) (sym c.span-r.ensures) (below _);
     }
 
-pub returns-in-default : goal.returns-in-default
-returns-in-default c codes free constraints n ground =
+pub returns-in_default : goal.returns-in_default
+returns-in_default c codes free constraints n ground =
     let g = held_in_hand c.args.representatives.now c.args.facts.now c.args.terms.now c.loop-k.k c.loop-k-test.true
-    c.loop-k.store c.loop-k.ends c.loop-k.invariant c.evaluate-row.new.store None _ _ _ _
-    c.operation-op.ensures c.arity-p.ensures c.span-s.ensures c.span-r.ensures c.in-default.ensures in
+    c.loop-k.store c.loop-k.ends c.loop-k.invariant c.evaluate_row.new.store None _ _ _ _
+    c.operation-op.ensures c.arity-p.ensures c.span-s.ensures c.span-r.ensures c.in_default.ensures in
     let P = with_rows codes free constraints c.args.terms.now in
     subst (λ (i : ℕ). i < tuples_in (read_sheet P) (named_by P c.args.facts.now c.args.representatives.now)) (sym g.0.long)
     (over P c.args.facts.now n c.args.representatives.now ground c.loop-k.k c.loop-k-test.true
@@ -34,10 +34,10 @@ returns-in-default c codes free constraints n ground =
 pub loop-k-preserved : goal.loop-k-preserved
 loop-k-preserved c =
     let g = held_in_hand c.args.representatives.now c.args.facts.now c.args.terms.now c.loop-k.k c.loop-k-test.true
-    c.loop-k.store c.loop-k.ends c.loop-k.invariant c.evaluate-row.new.store (Some c.in-Some.end) _ _ _ _
+    c.loop-k.store c.loop-k.ends c.loop-k.invariant c.evaluate_row.new.store (Some c.in-Some.end) _ _ _ _
     c.operation-op.ensures c.arity-p.ensures c.span-s.ensures c.span-r.ensures c.in-Some.ensures in
     valued_more c.args.representatives.now c.args.facts.now c.args.terms.now c.loop-k.k c.loop-k-test.true
-    c.loop-k.store c.loop-k.ends c.loop-k.invariant c.evaluate-row.new.store c.in-Some.end
+    c.loop-k.store c.loop-k.ends c.loop-k.invariant c.evaluate_row.new.store c.in-Some.end
     (omega (arith, length-set c.args.ends.now 0 0)) g.0 g.1
 
 pub returns : goal.returns

@@ -8,7 +8,7 @@ use Rattle.models.proofs.evaluation.single.Goals as goal
 
 pub returns : goal.returns
 returns c =
-    let t = c.tuple-of-t.result in
-    let e = c.tuple-of-t.ensures in
+    let t = c.tuple_of-t.result in
+    let e = c.tuple_of-t.ensures in
     filled_gathered same_tuple same_law (λ (u : Tuple). row_tuple c.args.representatives.now c.args.row ≡ u) (t ∷ []) (λ u m. ⊎_elim (λ p. sym e ∙ p) (λ q. absurd q) m) (λ u q. inl (e ∙ q)) _ _ _ _ c.requires.room
     (filled_new same_tuple c.args.store.now c.args.start (t ∷ []) _ _ c.offer.ensures)

@@ -6,4 +6,4 @@ use Rattle.models.proofs.evaluation.variable.Goals as goal
 
 pub returns : goal.returns
 returns c =
-    filled_gathered same_tuple same_law _ _ (facts_from c.args.representatives.now c.args.k c.args.facts.now) (facts_to c.args.representatives.now c.args.k c.args.facts.now) _ _ _ _ c.requires.room c.fill-variable.ensures
+    filled_gathered same_tuple same_law _ _ (facts_from c.args.representatives.now c.args.k c.args.facts.now) (facts_to c.args.representatives.now c.args.k c.args.facts.now) _ _ _ _ c.requires.room c.fill_variable.ensures

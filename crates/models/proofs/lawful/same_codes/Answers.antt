@@ -6,4 +6,4 @@ use Rattle.models.proofs.lawful.same_codes.Goals as goal
 pub returns : goal.returns
 returns g c =
     let K = g.K.Kind.meaning c.args.kind.now in
-    c.says-same.ensures ∙ ap is_same c.same.ensures ∙ sym (same_told (K c.args.x) (K c.args.y) c.args.x c.args.y)
+    c.says_same.ensures ∙ ap is_same c.same.ensures ∙ sym (same_told (K c.args.x) (K c.args.y) c.args.x c.args.y)

@@ -8,7 +8,7 @@ use Rattle.models.proofs.lawful.same_label.Goals.{
 
 pub returns-then-e-labels : goal.returns-then-e-labels
 returns-then-e-labels g c =
-    c.same-codes.ensures
+    c.same_codes.ensures
     ∙ sym (same_there (g.K.Kind.meaning c.args.kind.now) c.args.labels.now c.args.d c.args.e (omega arith) (omega arith))
 
 pub returns-else-d-labels : goal.returns-else-d-labels

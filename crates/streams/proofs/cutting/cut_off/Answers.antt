@@ -4,9 +4,9 @@ use Rattle.streams.proofs.cutting.cut_off.Goals as goal
 
 pub returns : goal.returns
 returns c =
-    let n : ℕ = c.record-size-size.result in
+    let n : ℕ = c.record_size-size.result in
     let xs : List ℕ = c.args.stream.now in
     record {
-      «record» = ap (λ (k : ℕ). take k xs) c.record-size-size.ensures.size;
-      rest = rest_cut n xs ∙ ap (λ (k : ℕ). drop k xs) c.record-size-size.ensures.size;
+      «record» = ap (λ (k : ℕ). take k xs) c.record_size-size.ensures.size;
+      rest = rest_cut n xs ∙ ap (λ (k : ℕ). drop k xs) c.record_size-size.ensures.size;
     }

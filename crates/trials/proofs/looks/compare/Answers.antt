@@ -2,15 +2,15 @@ use Rattle.std.proofs.Common.{take}
 use Rattle.trials.proofs.Lookups.{left_gone, right_gone, same_labels, other_labels, lost_labels}
 use Rattle.trials.proofs.looks.compare.Goals as goal
 
-pub returns-in-default : goal.returns-in-default
-returns-in-default g c =
+pub returns-in_default : goal.returns-in_default
+returns-in_default g c =
     left_gone _ (take c.args.count c.args.labels.now) c.args.x c.args.y
-    c.in-default.ensures
+    c.in_default.ensures
 
-pub returns-in-default-entry : goal.returns-in-default-entry
-returns-in-default-entry g c =
+pub returns-in_default-entry : goal.returns-in_default-entry
+returns-in_default-entry g c =
     right_gone _ (take c.args.count c.args.labels.now) c.args.x c.args.y
-    c.in-default-entry.ensures
+    c.in_default-entry.ensures
 
 pub returns-in-Same : goal.returns-in-Same
 returns-in-Same g c =

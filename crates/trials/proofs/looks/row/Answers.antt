@@ -9,5 +9,5 @@ returns-in-Some c =
 
 pub returns-in-None : goal.returns-in-None
 returns-in-None c =
-    c.no-row.ensures ∙
+    c.no_row.ensures ∙
     entry_gone (take c.args.count c.args.terms.now) c.args.t no_row c.in-None.ensures

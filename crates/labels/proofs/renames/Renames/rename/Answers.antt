@@ -9,7 +9,7 @@ returns g c =
     let pairs = held_pairs c.args.self.now in
     let same : length c.held.result.now ≡ length pairs = ap length c.held.ensures in
     let few : length pairs < 16 = omega (arith, same) in
-    let free : held_old pairs c.args.old ≡ false = ap (λ ps. held_old ps c.args.old) (sym c.held-2.ensures) ∙ sym c.if-holds-old.ensures in
+    let free : held_old pairs c.args.old ≡ false = ap (λ ps. held_old ps c.args.old) (sym c.held-2.ensures) ∙ sym c.if-holds_old.ensures in
     let room : c.args.self.now.count < length c.args.self.now.pairs = omega arith in
     let yes_answer : rename_answer pairs c.args.old ≡ Ok tt = granted pairs c.args.old few free in
     record {

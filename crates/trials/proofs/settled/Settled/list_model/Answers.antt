@@ -12,13 +12,13 @@ returns c =
     let fs : List Fact = take c.args.self.now.facts c.args.stores.now.facts.now in
     record {
       lists =
-          c.list-open.ensures.lists
+          c.list_open.ensures.lists
           ∙ ap (λ (l : List ℕ). written c.args.out.now (text (open_lines g l c.front-terms.result.now c.front-facts.result.now)))
           c.front-representatives.ensures
           ∙ ap (λ (l : List TermRow). written c.args.out.now (text (open_lines g rs l c.front-facts.result.now)))
           c.front-terms.ensures
           ∙ ap (λ (l : List Fact). written c.args.out.now (text (open_lines g rs (take c.args.self.now.terms c.args.stores.now.terms.now) l)))
           c.front-facts.ensures;
-      within = c.list-open.ensures.within;
-      fits = λ h. c.list-open.ensures.fits (omega arith) h;
+      within = c.list_open.ensures.within;
+      fits = λ h. c.list_open.ensures.fits (omega arith) h;
     }

@@ -3,7 +3,7 @@ use Rattle.trials.proofs.trial.Trial.step.Goals as goal
 
 pub returns : goal.returns
 returns g c = record {
-  all = c.take-step.ensures.all;
-  same = c.take-step.ensures.same;
+  all = c.take_step.ensures.all;
+  same = c.take_step.ensures.same;
   exact = steps_granted_exactly;
 }

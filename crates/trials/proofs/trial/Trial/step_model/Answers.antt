@@ -11,7 +11,7 @@ returns g c = record {
   all = λ w.
       model_acted (g.K.Kind.meaning c.args.kind.now) (counts c.args.self.now) (held c.args.stores.now)
       c.args.count c.args.representatives.now c.weigh-answer.result _ (c.weigh-answer.ensures.answer w)
-      (c.take-answer.ensures.all
+      (c.take_answer.ensures.all
       ∙ ap (λ (h : Held). answered (counts c.args.self.now) h c.args.representatives.now c.weigh-answer.result)
       c.weigh-answer.ensures.held);
   same = search rules;
