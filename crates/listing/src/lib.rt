@@ -31,8 +31,8 @@ pub fn list_open(
     terms: &[TermRow],
 ) -> Result<usize, Refusal>
     requires { (length representatives.now ≤ 64) × (length facts.now ≤ 1024) }
-    ensures* lists { λ r. ⌜ record { result = r; buffer = out.new } ≡ written out.old
-        (text (open_lines g representatives.now terms.now facts.now)) ⌝ }
+    ensures lists { record { result = result; buffer = out.new } ≡ written out.old
+        (text (open_lines g representatives.now terms.now facts.now)) }
     ensures within { IfOk result (λ n. n ≤ length out.old) }
     ensures heard { MatchResult result
         (λ n. read_lines (take n out.new) ≡
@@ -52,8 +52,8 @@ pub fn list_open(
 // One line, as that of a closed trial or of a refusal: its length, or the length that it needs. 18 bytes
 // suffice for the one, 44 for the other.
 pub fn list_line(out: &mut [u8], line: Line) -> Result<usize, Refusal>
-    ensures* lists { λ r. ⌜ record { result = r; buffer = out.new } ≡
-        written out.old (text (shown line ∷ [])) ⌝ }
+    ensures lists { record { result = result; buffer = out.new } ≡
+        written out.old (text (shown line ∷ [])) }
     ensures within { IfOk result (λ n. n ≤ length out.old) }
     ensures heard { MatchResult result (λ n. read_lines (take n out.new) ≡ some (shown line ∷ []))
         (λ e. Unit {0}) }

@@ -6,7 +6,7 @@ use Rattle.judging.proofs.read_renames.Goals as goal
 
 pub returns-in_err-rename : goal.returns-in_err-rename
 returns-in_err-rename g c =
-    let out = err_from_is_err_and c.from-residual.result c.from-residual.ensures.1 in
+    let out = err_from_is_err_and c.from_residual.result c.from_residual.ensures.1 in
     let whole : length c.args.bytes.now % 8 ≡ 0 = omega arith in
     let few : length c.args.bytes.now / 8 ≤ 16 = omega arith in
     record {

@@ -17,8 +17,8 @@ returns-then-out-needed c =
       fits = λ h k. let n = m h in absurd (omega arith);
     }
 
-pub put_at-requires : goal.put_at-requires
-put_at-requires c =
+pub put-at-requires : goal.put-at-requires
+put-at-requires c =
     let l = open_length c.args.g c.args.representatives.now c.args.terms.now c.args.facts.now in
     let s = c.open_size-needed.ensures.size in
     omega arith
@@ -27,14 +27,14 @@ pub put_names-at-requires : goal.put_names-at-requires
 put_names-at-requires c =
     let l = open_length c.args.g c.args.representatives.now c.args.terms.now c.args.facts.now in
     let s = c.open_size-needed.ensures.size in
-    let p = c.put_at.ensures.place in
+    let p = c.put-at.ensures.place in
     (c.requires.0, omega arith)
 
 pub put_facts-requires : goal.put_facts-requires
 put_facts-requires c =
     let l = open_length c.args.g c.args.representatives.now c.args.terms.now c.args.facts.now in
     let s = c.open_size-needed.ensures.size in
-    let p = c.put_at.ensures.place in
+    let p = c.put-at.ensures.place in
     let q = c.put_names-at.ensures.place in
     omega arith
 
@@ -42,6 +42,6 @@ pub returns : goal.returns
 returns c =
     let ls = open_lines c.args.g c.args.representatives.now c.args.terms.now c.args.facts.now in
     let s = c.open_size-needed.ensures.size in
-    let w = wrote_as _ (open_text c.args.g c.args.representatives.now c.args.terms.now c.args.facts.now) (wrote_more (wrote_more c.put_at.ensures c.put_names-at.ensures) c.put_facts.ensures) in
+    let w = wrote_as _ (open_text c.args.g c.args.representatives.now c.args.terms.now c.args.facts.now) (wrote_more (wrote_more c.put-at.ensures c.put_names-at.ensures) c.put_facts.ensures) in
     let t = told c.args.out.now ls _ _ (omega arith) w in
     record { lists = t.lists; within = t.within; heard = t.heard; fits = λ h k. refl }

@@ -62,13 +62,13 @@ impl Sheet {
         stores: &mut Stores,
         bytes: &[u8],
     ) -> Result<(), Refusal>
-        ensures* all { λ r. ⌜ record {
-          result = r;
+        ensures all { record {
+          result = result;
           sheet = filling_of self.new;
           stores = held stores.new;
         }
             ≡ add_of (K.Kind.meaning kind.now) (filling_of self.old)
-            (held stores.old) bytes.now ⌝ }
+            (held stores.old) bytes.now }
         ensures same { Same stores.old stores.new }
         ensures tuples { tuples_of stores.new ≡ tuples_of stores.old }
     {
@@ -98,13 +98,13 @@ impl Sheet {
         code: u32,
     ) -> Result<(), Refusal>
         requires { Enough (held stores.old) }
-        ensures* all { λ r. ⌜ record {
-          result = r;
+        ensures all { record {
+          result = result;
           sheet = filling_of self.new;
           stores = held stores.new;
         }
             ≡ label_row (K.Kind.meaning kind.now) (filling_of self.old)
-            (held stores.old) code ⌝ }
+            (held stores.old) code }
         ensures same { Same stores.old stores.new }
         ensures tuples { tuples_of stores.new ≡ tuples_of stores.old }
     {
@@ -131,12 +131,12 @@ impl Sheet {
     // A term's row, once all labels are in.
     fn add_term(&mut self, stores: &mut Stores, row: TermRow) -> Result<(), Refusal>
         requires { Enough (held stores.old) }
-        ensures* all { λ r. ⌜ record {
-          result = r;
+        ensures all { record {
+          result = result;
           sheet = filling_of self.new;
           stores = held stores.new;
         }
-            ≡ term_row (filling_of self.old) (held stores.old) row ⌝ }
+            ≡ term_row (filling_of self.old) (held stores.old) row }
         ensures same { Same stores.old stores.new }
         ensures tuples { tuples_of stores.new ≡ tuples_of stores.old }
     {
@@ -166,12 +166,12 @@ impl Sheet {
     // A constraint's row, once all terms are in: it is kept as a fact.
     fn add_constraint(&mut self, stores: &mut Stores, row: ConstraintRow) -> Result<(), Refusal>
         requires { Enough (held stores.old) }
-        ensures* all { λ r. ⌜ record {
-          result = r;
+        ensures all { record {
+          result = result;
           sheet = filling_of self.new;
           stores = held stores.new;
         }
-            ≡ constraint_row (filling_of self.old) (held stores.old) row ⌝ }
+            ≡ constraint_row (filling_of self.old) (held stores.old) row }
         ensures same { Same stores.old stores.new }
         ensures tuples { tuples_of stores.new ≡ tuples_of stores.old }
     {

@@ -20,8 +20,8 @@ impl Settled {
     // The listing of a model, from stores that are large enough.
     fn list_model(&self, stores: &Stores, out: &mut [u8]) -> Result<usize, Refusal>
         requires { Enough (held stores.now) }
-        ensures* lists { λ r. ⌜ record { result = r; buffer = out.new } ≡ written out.old
-            (text (lines_by Open (settled_counts self.now) (held stores.now))) ⌝ }
+        ensures lists { record { result = result; buffer = out.new } ≡ written out.old
+            (text (lines_by Open (settled_counts self.now) (held stores.now))) }
         ensures within { IfOk result (λ n. n ≤ length out.old) }
         ensures fits { 24323 ≤ length out.old → is_ok result ≡ true }
     {
@@ -34,8 +34,8 @@ impl Settled {
     // The listing by the verdict, from stores that are large enough.
     fn list_from(&self, stores: &Stores, out: &mut [u8]) -> Result<usize, Refusal>
         requires { Enough (held stores.now) }
-        ensures* lists { λ r. ⌜ record { result = r; buffer = out.new } ≡ written out.old
-            (text (lines_of (settled_counts self.now) (held stores.now))) ⌝ }
+        ensures lists { record { result = result; buffer = out.new } ≡ written out.old
+            (text (lines_of (settled_counts self.now) (held stores.now))) }
         ensures within { IfOk result (λ n. n ≤ length out.old) }
         ensures fits { 24323 ≤ length out.old → is_ok result ≡ true }
     {
@@ -49,8 +49,8 @@ impl Settled {
     // Writes the listing at the front of the buffer and answers its length; a buffer that is too short is left
     // alone, and the length needed is named. 24,323 bytes are never too short.
     pub fn list(&self, stores: &Stores, out: &mut [u8]) -> Result<usize, Refusal>
-        ensures* lists { λ r. ⌜ record { result = r; buffer = out.new }
-            ≡ list_of (settled_counts self.now) (held stores.now) out.old ⌝ }
+        ensures lists { record { result = result; buffer = out.new }
+            ≡ list_of (settled_counts self.now) (held stores.now) out.old }
         ensures within { IfOk result (λ n. n ≤ length out.old) }
         ensures fits { Enough (held stores.now) → 24323 ≤ length out.old → is_ok result ≡ true }
     {

@@ -43,13 +43,13 @@ impl Trial {
         outcome: Result<Outcome, Refusal>,
     ) -> Result<(), Refusal>
         requires { (Enough (held stores.old)) × (IfOk outcome (λ o. Ready (counts self.old) o)) }
-        ensures* all { λ r. ⌜ record {
-          result = r;
+        ensures all { record {
+          result = result;
           trial = counts self.new;
           stores = held stores.new;
         }
             ≡ acted_at self.old.verdict (counts self.old) (held stores.old)
-            outcome ⌝ }
+            outcome }
         ensures same { Same stores.old stores.new }
         ensures tuples { tuples_of stores.new ≡ tuples_of stores.old }
     {

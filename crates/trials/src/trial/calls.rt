@@ -38,13 +38,13 @@ impl Trial {
         stores: &mut Stores,
         bytes: &[u8],
     ) -> Result<(), Refusal>
-        ensures* all { λ r. ⌜ (Whole (counts self.old) (held stores.old) → record {
-          result = r;
+        ensures all { (Whole (counts self.old) (held stores.old) → record {
+          result = result;
           trial = counts self.new;
           stores = held stores.new;
         }
             ≡ step_of (K.Kind.meaning kind.now) (counts self.old)
-            (held stores.old) bytes.now) ⌝ }
+            (held stores.old) bytes.now) }
         ensures same { Same stores.old stores.new }
     {
         if !large_enough(stores) {
@@ -69,13 +69,13 @@ impl Trial {
         stores: &mut Stores,
         bytes: &[u8],
     ) -> Result<(), Refusal>
-        ensures* all { λ r. ⌜ (Whole (counts self.old) (held stores.old) → record {
-          result = r;
+        ensures all { (Whole (counts self.old) (held stores.old) → record {
+          result = result;
           trial = counts self.new;
           stores = held stores.new;
         }
             ≡ step_of (K.Kind.meaning kind.now) (counts self.old)
-            (held stores.old) bytes.now) ⌝ }
+            (held stores.old) bytes.now) }
         ensures same { Same stores.old stores.new }
         ensures exact { StepsGrantedExactly }
     {

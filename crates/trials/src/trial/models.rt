@@ -104,14 +104,14 @@ impl Trial {
         representatives: &[u8],
     ) -> Result<(), Refusal>
         requires { Enough (held stores.old) }
-        ensures* all { λ r. ⌜ (Whole (counts self.old) (held stores.old) → record {
-          result = r;
+        ensures all { (Whole (counts self.old) (held stores.old) → record {
+          result = result;
           trial = counts self.new;
           stores = held stores.new;
         }
             ≡ stepped_at self.old.verdict (K.Kind.meaning kind.now)
             (counts self.old) (held stores.old)
-            (model count representatives.now)) ⌝ }
+            (model count representatives.now)) }
         ensures same { Same stores.old stores.new }
     {
         let answer = self.weigh(kind, stores, count, representatives);
@@ -127,13 +127,13 @@ impl Trial {
     ) -> Result<(), Refusal>
         requires { (Enough (held stores.old)) × (MatchResult answer
             (λ _. (length representatives.now ≤ 64) × (self.old.granted < 1000000)) (λ _. Unit {0})) }
-        ensures* all { λ r. ⌜ record {
-          result = r;
+        ensures all { record {
+          result = result;
           trial = counts self.new;
           stores = held stores.new;
         }
             ≡ answered (counts self.old) (held stores.old)
-            representatives.now answer ⌝ }
+            representatives.now answer }
         ensures same { Same stores.old stores.new }
     {
         match answer {

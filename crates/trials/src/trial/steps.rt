@@ -36,13 +36,13 @@ impl Trial {
         x: Step,
     ) -> Result<(), Refusal>
         requires { Enough (held stores.old) }
-        ensures* all { λ r. ⌜ record {
-          result = r;
+        ensures all { record {
+          result = result;
           trial = counts self.new;
           stores = held stores.new;
         }
             ≡ stepped_at self.old.verdict (K.Kind.meaning kind.now)
-            (counts self.old) (held stores.old) (rule x) ⌝ }
+            (counts self.old) (held stores.old) (rule x) }
         ensures same { Same stores.old stores.new }
         ensures tuples { tuples_of stores.new ≡ tuples_of stores.old }
     {

@@ -10,7 +10,7 @@ loop-i-preserved c =
     let i = c.loop-i.i in
     let rs = c.args.representatives.now in
     let j = ap length (names_next rs i c.loop-i-test.true) ∙ length-append (text (name_lines (take i rs) 0)) (line (name i (get_or rs i 0))) in
-    let m = name_step i (get_or rs i 0) (omega arith) (omega (arith, c.type-inv.representatives i)) in
+    let m = name_step i (get_or rs i 0) (omega arith) (omega (arith, c.type_inv.representatives i)) in
     let s = c.size-size.ensures.size in
     (omega arith, omega arith)
 

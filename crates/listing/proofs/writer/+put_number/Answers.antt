@@ -20,8 +20,8 @@ bounds-out-last t c =
     let p = c.put_number-last.ensures.place in
     omega (arith, c.put_number-last.auto.out)
 
-pub overflow-add-result-2 : goal.overflow-add-result-2
-overflow-add-result-2 t c =
+pub overflow_add-result-2 : goal.overflow_add-result-2
+overflow_add-result-2 t c =
     let l = length-step c.args.n c.if-n-lt10.false in
     let p = c.put_number-last.ensures.place in
     search rules

@@ -3,8 +3,8 @@ use Rattle.meaning.specs.Text.{numeral}
 use Rattle.meaning.proofs.Numerals.{length-step, length-digit, length-numeral-le}
 use Rattle.listing.proofs.writer.digits_of.Goals as goal
 
-pub overflow-add-count : goal.overflow-add-count
-overflow-add-count c =
+pub overflow_add-count : goal.overflow_add-count
+overflow_add-count c =
     let m : length (numeral c.args.n) ≤ 20 = length-numeral-le 20 c.args.n (omega arith) (omega arith) in
     search rules
 
