@@ -1,4 +1,4 @@
--- A constraint row is granted exactly as the subject has it (`constraint-exact`).
+-- A constraint row is granted exactly as the subject has it (`constraint_exact`).
 use Rattle.std.proofs.Common.{◌≡◌, ℕ, ◌+◌, ◌<◌, Bool, true, false, cond, ◌&&◌, ltb, leb, List, [], ◌∷◌, ◌++◌, map, take, set, Ok, sym, refl, ap, ◌∙◌, subst, arith, ltb-false, ltb-true}
 use mathlib.Core.Option.{Option}
 use borrow.Author.Tests.{both_ways}

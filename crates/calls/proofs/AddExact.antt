@@ -1,4 +1,4 @@
--- add runs exactly as the subject has it (`add-exact`).
+-- add runs exactly as the subject has it (`add_exact`).
 use Rattle.std.proofs.Common.{◌≡◌, ℕ, Bool, cond, List, sym, refl, subst}
 use mathlib.Core.Option.{Option}
 use Rattle.records.specs.declared.record.RowRecord.{RowRecord}

@@ -1,4 +1,4 @@
--- A label row is granted exactly as the subject has it (`label-exact`).
+-- A label row is granted exactly as the subject has it (`label_exact`).
 use Rattle.std.proofs.Common.{◌≡◌, ℕ, ◌+◌, ◌<◌, Bool, true, false, cond, ltb, List, [], ◌∷◌, ◌++◌, take, set, Ok, sym, refl, ap, ◌∙◌, subst, arith, ltb-false, ltb-true}
 use mathlib.Core.Option.{Option, none, some}
 use borrow.Author.Tests.{both_ways}

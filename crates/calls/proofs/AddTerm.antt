@@ -1,4 +1,4 @@
--- A term row is granted exactly as the subject has it (`term-exact`).
+-- A term row is granted exactly as the subject has it (`term_exact`).
 use Rattle.std.proofs.Common.{◌≡◌, ℕ, ◌+◌, ◌<◌, ◌≤◌, Bool, true, false, cond, ltb, ◌⊎◌, List, [], ◌∷◌, ◌++◌, map, length, take, set, Ok, sym, refl, ap, ◌∙◌, subst, inl, inr, arith, ltb-false, ltb-true}
 use mathlib.Core.Option.{Option, some}
 use borrow.Author.Tests.{both_ways}

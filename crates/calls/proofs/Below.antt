@@ -1,5 +1,5 @@
--- The first number below n that fails a test: there is none exactly where all pass (`first-bad-none`), and it
--- is e exactly where e fails and all before it pass (`first-bad-least`, `first-bad-found`).
+-- The first number below n that fails a test: there is none exactly where all pass (`first_bad_none`), and it
+-- is e exactly where e fails and all before it pass (`first_bad_least`, `first_bad_found`).
 use Rattle.std.proofs.Common.{◌≡◌, ℕ, zero, suc, ◌+◌, ◌<◌, Bool, true, false, cond, ◌↔◌, sym, refl, ap, ◌∙◌, subst, arith}
 use mathlib.Core.Option.{Option, none, some, some-injective}
 use native.Mathlib.Decide.{dec_lt}

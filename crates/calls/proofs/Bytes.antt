@@ -1,4 +1,4 @@
--- What is read from bytes says which bytes they are (`header-told`, `row_told`).
+-- What is read from bytes says which bytes they are (`header_told`, `row_told`).
 use Rattle.std.proofs.Common.{◌≡◌, ℕ, zero, suc, Bool, true, false, cond, eqb, List, [], ◌∷◌, length, Some, None, Option, refl, ap, ◌∙◌, arith, eqb-true}
 use Rattle.records.specs.declared.rows.Header.{Header}
 use Rattle.records.specs.declared.rows.TermRow.{TermRow}

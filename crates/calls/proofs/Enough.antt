@@ -1,4 +1,4 @@
--- Stores that are long enough pass the test of it (`enough-holds`), and a write leaves them long enough.
+-- Stores that are long enough pass the test of it (`enough_holds`), and a write leaves them long enough.
 use Rattle.std.proofs.Common.{◌≡◌, ℕ, true, set, arith, length-set, le-leb}
 use Rattle.records.specs.declared.rows.Fact.{Fact}
 use Rattle.records.specs.declared.rows.TermRow.{TermRow}

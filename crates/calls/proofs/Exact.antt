@@ -1,4 +1,4 @@
--- A term row, or a constraint, that fits passes its tests (`row-passes`, `fact-passes`).
+-- A term row, or a constraint, that fits passes its tests (`row_passes`, `fact_passes`).
 use Rattle.std.proofs.Common.{◌≡◌, ℕ, zero, suc, ◌+◌, ◌<◌, ◌≤◌, Bool, true, false, cond, eqb, ltb, leb, List, [], ◌∷◌, length, get_or, sym, refl, ap, ◌∙◌, subst, ap₂, arith, ltb-false, ltb-true, lt-ltb, eq-eqb, le-leb}
 use Rattle.std.specs.List.{AllByRecursion as All}
 use Rattle.records.specs.declared.rows.Fact.{Fact as FactRow}

@@ -1,4 +1,4 @@
--- A fact of the subject is read from its bytes as what is written of it (`fact-read`), which fits where it does.
+-- A fact of the subject is read from its bytes as what is written of it (`fact_read`), which fits where it does.
 use Rattle.std.proofs.Common.{◌≡◌, ℕ, zero, suc, ◌+◌, Bool, true, false, eqb, leb, List, [], ◌∷◌, sym, refl, ap, ◌∙◌, subst, arith, leb-true}
 use mathlib.Core.Option.{none}
 use Rattle.records.specs.declared.rows.Fact.{Fact as FactRow}

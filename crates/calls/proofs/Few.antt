@@ -1,5 +1,5 @@
--- The number of tuples is within a limit exactly where the terms have few enough: `few-exact`; and it is what
--- any lists of exactly the terms' tuples have together: `tuples-are`.
+-- The number of tuples is within a limit exactly where the terms have few enough: `few_exact`; and it is what
+-- any lists of exactly the terms' tuples have together: `tuples_are`.
 use Rattle.std.proofs.Common.{◌≡◌, ℕ, zero, suc, ◌+◌, ◌<◌, ◌≤◌, true, leb, ◌↔◌, List, [], ◌∷◌, ◌++◌, length, get_or, take, sym, refl, ap, ◌∙◌, subst, ap₂, arith, le-leb, leb-true}
 use native.Mathlib.Decide.{dec_lt, ℕ_discrete}
 use Rattle.std.proofs.lemmas.List.{take_more, take_all, length_push, get_or_push, get_or_append_left}

@@ -1,4 +1,4 @@
--- A sheet in order: how many rows are in (`codes-in`, `rows_in`, `constraints-in`), and what passed (`none_passed`).
+-- A sheet in order: how many rows are in (`codes_in`, `rows_in`, `constraints_in`), and what passed (`none_passed`).
 use Rattle.std.proofs.Common.{◌≡◌, ℕ, zero, suc, ◌+◌, ◌<◌, ◌≤◌, true, List, [], length, take, sym, refl, ap, ◌∙◌, subst, arith, length-take}
 use lib.ListN.{length-map}
 use Rattle.std.specs.List.{AllByRecursion as All}

@@ -1,4 +1,4 @@
--- The room tests of a step speak of all its alternatives (`room-told`).
+-- The room tests of a step speak of all its alternatives (`room_told`).
 use Rattle.std.proofs.Common.{◌≡◌, ℕ, zero, suc, ◌+◌, ◌≤◌, Bool, true, false, cond, ◌||◌, eqb, ltb, ◌↔◌, List, [], ◌∷◌, length, sym, refl, ap, subst, arith, ltb-false, le-ltb}
 use Rattle.std.specs.List.{AllByRecursion as All}
 use Rattle.records.specs.declared.rows.Fact.{Fact as FactRow}

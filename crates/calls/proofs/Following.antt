@@ -1,6 +1,6 @@
 -- What a step by a rule is right to come to (`Right`): where it is granted the rule applies with room, and
 -- numbers and stores then read as the state that its alternatives bring; where it is refused no rule applies
--- with room. Facts and forks that land as lists are followed in the stores (`lands-follow`).
+-- with room. Facts and forks that land as lists are followed in the stores (`lands_follow`).
 use Rattle.std.proofs.Common.{◌≡◌, ℕ, ◌+◌, ◌<◌, ◌≤◌, List, [], length, take, Ok, Err, Result, sym, ap, ◌∙◌, subst, arith, length-take}
 use mathlib.Core.Option.{Option}
 use Rattle.records.specs.declared.rows.Fact.{Fact as FactRow}

@@ -1,5 +1,5 @@
--- Forks are read the same, and fit the same, over facts with the front that they were made on (`forks-same`,
--- `stack-moved`); the latest fork of a stack fits, over a stack of the others (`top`).
+-- Forks are read the same, and fit the same, over facts with the front that they were made on (`forks_same`,
+-- `stack_moved`); the latest fork of a stack fits, over a stack of the others (`top`).
 use Rattle.std.proofs.Common.{◌≡◌, ℕ, zero, suc, ◌+◌, ◌-◌, ◌<◌, ◌≤◌, List, [], ◌∷◌, ◌++◌, map, length, take, Option as Maybe, sym, refl, ap, ◌∙◌, subst, ap₂, arith}
 use Rattle.std.specs.List.{AllByRecursion as All}
 use Rattle.records.specs.declared.rows.Fact.{Fact as FactRow}

@@ -1,5 +1,5 @@
 -- What writes leave in the counted fronts of the stores: the facts of an alternative come after the front that
--- they are written to (`put_front`, `put-below`), and the last of a front is split off it (`last-split`).
+-- they are written to (`put_front`, `put_below`), and the last of a front is split off it (`last_split`).
 use Rattle.std.proofs.Common.{◌≡◌, ℕ, zero, suc, ◌+◌, ◌-◌, ◌<◌, ◌≤◌, Bool, true, false, cond, eqb, List, [], ◌∷◌, ◌++◌, length, take, set, Some, None, sym, refl, ap, ◌∙◌, ap₂, arith, length-set, length-take}
 use Rattle.std.specs.List.{slice_get}
 use Rattle.std.proofs.lemmas.List.{append-nil, append_assoc, take_more_set, take-take, take-append-le}

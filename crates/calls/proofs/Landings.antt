@@ -1,5 +1,5 @@
 -- The facts and forks that a rule leaves, as lists, read as the state that its alternatives bring, and fit
--- again: one alternative (`adds-land`), several (`forks-land`), a fork resumed (`resume-lands`).
+-- again: one alternative (`adds_land`), several (`forks_land`), a fork resumed (`resume_lands`).
 use Rattle.std.proofs.Common.{◌≡◌, ℕ, suc, ◌+◌, ◌-◌, ◌<◌, ◌≤◌, Bool, true, false, cond, ltb, List, [], ◌∷◌, ◌++◌, map, length, take, Some, Option as Maybe, sym, refl, ap, ◌∙◌, subst, arith, length-take, ltb-false, ltb-true, lt-ltb}
 use Rattle.std.specs.List.{AllByRecursion as All, slice_get}
 use Rattle.std.proofs.lemmas.List.{map-append, take_all, take-take, take-append-le}

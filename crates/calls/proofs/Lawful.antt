@@ -1,4 +1,4 @@
--- Every name passes its test exactly where the representatives are lawful: `lawful-exact`.
+-- Every name passes its test exactly where the representatives are lawful: `lawful_exact`.
 use Rattle.std.proofs.Common.{◌≡◌, ℕ, ◌<◌, ◌≤◌, true, not, ◌&&◌, ◌||◌, eqb, leb, ◌↔◌, List, length, sym, refl, ap, ◌∙◌, arith, eq-eqb, eqb-true, le-leb, leb-false, leb-true}
 use mathlib.Core.Option.{Option, none, some}
 use borrow.Author.Tests.{lt-leb}

@@ -1,5 +1,5 @@
 -- The lines that are listed from numbers and stores are the subject's listing of the trial read from them
--- (`listing-exact`).
+-- (`listing_exact`).
 use Rattle.std.proofs.Common.{◌≡◌, ℕ, zero, suc, ◌<◌, Bool, true, false, cond, ◌&&◌, eqb, ltb, List, [], ◌∷◌, ◌++◌, map, length, take, sym, refl, ap, ◌∙◌, subst, inl, inr, arith}
 use lib.ListN.{get_elem?}
 use Rattle.std.specs.List.{flat_map}

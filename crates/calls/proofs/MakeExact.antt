@@ -1,4 +1,4 @@
--- make runs exactly as the subject has it (`make-exact`).
+-- make runs exactly as the subject has it (`make_exact`).
 use Rattle.std.proofs.Common.{◌≡◌, ℕ, ◌+◌, Bool, true, false, cond, eqb, leb, List, Some, None, Ok, Err, Option, sym, refl, subst, arith, eq-eqb, eqb-true, le-leb, leb-true}
 use borrow.Author.Tests.{both_ways}
 use Rattle.records.specs.declared.refusal.Refusal.TheVariants.{StoresShort, WrongLetter, OverLimit}

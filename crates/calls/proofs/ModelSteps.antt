@@ -1,5 +1,5 @@
 -- A model is granted exactly where the subject has a case for its bytes, given that its answer is right
--- (`model-step-exact`); with that, every step is (`step-exact`).
+-- (`model_step_exact`); with that, every step is (`step_exact`).
 use Rattle.std.proofs.Common.{◌≡◌, ℕ, ◌+◌, ◌<◌, ◌≤◌, Bool, true, false, cond, eqb, leb, ◌⊎◌, ◌↔◌, List, ◌∷◌, length, drop, Ok, Err, Result, sym, refl, ap, ◌∙◌, subst, inl, inr, arith, length-append, length-drop, eqb-true, le-leb, leb-false, leb-true}
 use mathlib.Core.Option.{Option}
 use borrow.Author.Tests.{eqb-false}

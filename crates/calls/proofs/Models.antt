@@ -1,5 +1,5 @@
 -- A model is granted exactly where it is lawful, has few enough tuples, and satisfies the constraints:
--- `model-exact`.
+-- `model_exact`.
 use Rattle.std.proofs.Common.{◌≡◌, ℕ, Bool, true, false, cond, eqb, leb, length, Ok, Err, Result, sym, refl, ap, ◌∙◌, arith, eq-eqb, eqb-true}
 use mathlib.Core.Option.{Option, none, some}
 use Rattle.records.specs.declared.refusal.Refusal.{Refusal}

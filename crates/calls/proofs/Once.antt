@@ -1,5 +1,5 @@
--- Two lists without repetition and with the same members are equally long: `equally-long`. `once` has no
--- repetition and the same members: `once-exactly`.
+-- Two lists without repetition and with the same members are equally long: `equally_long`. `once` has no
+-- repetition and the same members: `once_exactly`.
 use Rattle.std.proofs.Common.{◌≡◌, ◌+◌, ◌≤◌, ◌⊎◌, List, [], ◌∷◌, length, sym, refl, ◌∙◌, subst, inl, inr, ⊎_elim, arith}
 use mathlib.Core.List.{Memᴰ as Mem}
 use mathlib.Core.List.Memᴰ

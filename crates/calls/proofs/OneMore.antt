@@ -1,4 +1,4 @@
--- Fronts of lists and of stores: what one more element leaves (`map_push`, `all_push`, `last-or-before`).
+-- Fronts of lists and of stores: what one more element leaves (`map_push`, `all_push`, `last_or_before`).
 use Rattle.std.proofs.Common.{◌≡◌, ℕ, zero, suc, ◌⊎◌, List, [], ◌∷◌, ◌++◌, map, length, take, refl, ap, inl, inr, arith}
 use mathlib.Core.Option.{some, some-injective}
 use lib.ListN.{get_elem?}

@@ -1,5 +1,5 @@
 -- A trial of the functions that a run after a granted make comes to is reached in the subject's words
--- (`functions-reach-by`).
+-- (`functions_reach_by`).
 use Rattle.std.proofs.Common.{◌≡◌, ℕ, ◌⊎◌, List, Ok, Result, sym, refl, ap, ◌∙◌, subst, inl, inr}
 use mathlib.Core.Option.{Option}
 use Rattle.records.specs.declared.refusal.Refusal.{Refusal}

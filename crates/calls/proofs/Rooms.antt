@@ -1,5 +1,5 @@
--- A rule step has room exactly where its alternatives, as rows, fit the limits (`has_room`, `room-names`,
--- `room-facts`, `room-forks`).
+-- A rule step has room exactly where its alternatives, as rows, fit the limits (`has_room`, `room_names`,
+-- `room_facts`, `room_forks`).
 use Rattle.std.proofs.Common.{◌≡◌, ℕ, ◌+◌, ◌<◌, ◌≤◌, List, [], ◌∷◌, map, length, sym, ◌∙◌, subst, ap₂, arith, length-append}
 use lib.ListN.{length-map}
 use Rattle.std.specs.List.{AllByRecursion as All}

@@ -1,5 +1,5 @@
--- There is no first false constraint exactly where every constraint holds: `satisfies-exact`; and it is k
--- exactly where constraint k does not hold and all before it do: `first-false-least`, `first-false-found`.
+-- There is no first false constraint exactly where every constraint holds: `satisfies_exact`; and it is k
+-- exactly where constraint k does not hold and all before it do: `first_false_least`, `first_false_found`.
 use Rattle.std.proofs.Common.{◌≡◌, ℕ, zero, suc, ◌+◌, ◌<◌, Bool, true, false, cond, ◌↔◌, List, [], ◌∷◌, length, sym, refl, ap, ◌∙◌, subst, arith}
 use mathlib.Core.Option.{none, some, some-injective}
 use native.Mathlib.Decide.{ℕ_discrete}

@@ -1,4 +1,4 @@
--- seal runs exactly as the subject has it (`seal-exact`).
+-- seal runs exactly as the subject has it (`seal_exact`).
 use Rattle.std.proofs.Common.{◌≡◌, ℕ, ◌+◌, Bool, true, false, cond, eqb, [], length, take, Ok, Err, sym, refl, ap, ◌∙◌, subst, arith, eqb-true}
 use mathlib.Core.Option.{Option}
 use borrow.Author.Tests.{eqb-false}

@@ -1,4 +1,4 @@
--- What stands of the call functions, put together (`calls-stand`).
+-- What stands of the call functions, put together (`calls_stand`).
 use Rattle.meaning.proofs.Law.{law_of_verdicts}
 use Rattle.calls.specs.Exact.{StepIsExact}
 use Rattle.calls.specs.Standing.{RowsGrantedExactly, StepsGrantedExactly, FunctionsRunExactly, CallsStand}

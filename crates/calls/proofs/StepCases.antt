@@ -1,5 +1,5 @@
 -- What a granted step or settle rests on, told from its case (`told`), and the bytes of a step, told from how
--- they are read (`read-rule`, `read-model`) and read where they are told (`rule-reads`, `model-reads`).
+-- they are read (`read_rule`, `read_model`) and read where they are told (`rule_reads`, `model_reads`).
 use Rattle.std.proofs.Common.{◌≡◌, ℕ, ◌+◌, ◌*◌, ◌<◌, ◌≤◌, Bool, true, false, cond, ◌&&◌, eqb, leb, ◌⊎◌, List, [], ◌∷◌, length, drop, sym, refl, ◌∙◌, inl, inr, arith, eqb-true, le-leb, leb-true}
 use Rattle.records.specs.declared.rows.Step.{Step}
 use Rattle.records.specs.Reading.{rule, model, other, byte, marked, whole, step_of, step_in}

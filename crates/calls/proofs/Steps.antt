@@ -1,5 +1,5 @@
--- A step by a rule comes to what the calculus has (`come-right`): granted (`granted-step`) and refused
--- (`refused-step`).
+-- A step by a rule comes to what the calculus has (`come_right`): granted (`granted_step`) and refused
+-- (`refused_step`).
 use Rattle.std.proofs.Common.{◌≡◌, ℕ, ◌-◌, ◌<◌, Bool, true, false, cond, eqb, List, Ok, Err, Result, sym, refl, ◌∙◌, subst, arith, eqb-true}
 use mathlib.Core.Option.{Option}
 use Rattle.std.specs.List.{slice_get}

@@ -1,6 +1,6 @@
--- A step by a rule is granted exactly where the subject has a case for its bytes (`rule-step-exact`), no other
--- bytes are (`other-step-exact`, `short-model-exact`), none is once there is a verdict (`decided-step-exact`),
--- and a settle is granted exactly where there is one (`settle-exact`).
+-- A step by a rule is granted exactly where the subject has a case for its bytes (`rule_step_exact`), no other
+-- bytes are (`other_step_exact`, `short_model_exact`), none is once there is a verdict (`decided_step_exact`),
+-- and a settle is granted exactly where there is one (`settle_exact`).
 use Rattle.std.proofs.Common.{◌≡◌, ℕ, ◌+◌, ◌*◌, ◌<◌, ◌≤◌, Bool, true, false, cond, eqb, leb, ◌⊎◌, List, [], ◌∷◌, length, Ok, Err, Result, sym, refl, ap, ◌∙◌, subst, inl, inr, arith, ne_eqb, leb-false, leb-true}
 use mathlib.Core.Option.{Option}
 use Rattle.records.specs.declared.rows.Step.{Step}

@@ -1,4 +1,4 @@
--- A term row, or a constraint, that passes its tests fits (`row_fits`, `fact-fits`).
+-- A term row, or a constraint, that passes its tests fits (`row_fits`, `fact_fits`).
 use Rattle.std.proofs.Common.{◌≡◌, ℕ, zero, suc, ◌+◌, ◌-◌, ◌<◌, ◌≤◌, Bool, true, false, cond, eqb, ltb, leb, List, [], ◌∷◌, length, take, sym, refl, ap, ◌∙◌, subst, arith, ltb-true, ne_eqb, eqb-true, leb-true}
 use Rattle.std.specs.List.{AllByRecursion as All}
 use Rattle.records.specs.declared.rows.Fact.{Fact as FactRow}

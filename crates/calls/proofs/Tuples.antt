@@ -1,4 +1,4 @@
--- Tuples in four fields do what lists of names do: reversed (`reversed-is`), joined, split, changed.
+-- Tuples in four fields do what lists of names do: reversed (`reversed_is`), joined, split, changed.
 use Rattle.std.proofs.Common.{◌≡◌, ℕ, zero, suc, ◌+◌, ◌-◌, ◌<◌, ◌≤◌, Bool, true, false, cond, eqb, List, [], ◌∷◌, ◌++◌, reverse, length, get_or, take, drop, sym, refl, ap, ◌∙◌, subst, arith}
 use Rattle.rules.specs.declared.cited.Names.{Names}
 use Rattle.rules.specs.Tuples as tuple

@@ -1,4 +1,4 @@
--- Alternatives that fit are read back as they were written, and fit then too (`alts-back`, `alts-kept`).
+-- Alternatives that fit are read back as they were written, and fit then too (`alts_back`, `alts_kept`).
 use Rattle.std.proofs.Common.{◌≡◌, ℕ, ◌+◌, ◌≤◌, Bool, List, [], ◌∷◌, map, length, get_or, take, sym, refl, ap, ◌∙◌, subst, ap₂, arith}
 use mathlib.Core.Option.{Option}
 use Rattle.std.specs.List.{AllByRecursion as All}

@@ -1,4 +1,4 @@
--- Bytes written over others: one write after another (`wrote-more`), and loops that write piece by piece.
+-- Bytes written over others: one write after another (`wrote_more`), and loops that write piece by piece.
 use Rattle.std.proofs.Common.{◌≡◌, ℕ, ◌+◌, ◌/◌, ◌%◌, ◌<◌, ◌≤◌, List, [], ◌∷◌, ◌++◌, length, get_or, take, drop, set, sym, refl, ap, ◌∙◌, append_assoc, append-nil, add-zero, arith, length-append, length-set, take-append-drop}
 use Rattle.std.specs.List.{flat_map}
 use Rattle.std.proofs.lemmas.List.{take_more, take_more_set, drop-set-lt, take-take}

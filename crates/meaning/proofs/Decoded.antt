@@ -1,4 +1,4 @@
--- The tree of each row is made of the trees of its operands: `term-node`.
+-- The tree of each row is made of the trees of its operands: `term_node`.
 use Rattle.std.proofs.Common.{◌≡◌, ℕ, zero, suc, ◌+◌, ◌<◌, List, [], ◌∷◌, ◌++◌, length, get_or, sym, refl, ◌∙◌, arith}
 use mathlib.Core.Option.{none, some, some-injective}
 use lib.ListN.{get_or-append}

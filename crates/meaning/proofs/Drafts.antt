@@ -1,4 +1,4 @@
--- A sheet that is full stays full as its rows come in: `full-fresh`, `full-code`, `full-row`, `full-constraint`.
+-- A sheet that is full stays full as its rows come in: `full_fresh`, `full_code`, `full_row`, `full_constraint`.
 use Rattle.std.proofs.Common.{◌≡◌, ℕ, zero, suc, ◌+◌, ◌<◌, ◌≤◌, ◌⊎◌, List, [], ◌∷◌, ◌++◌, length, sym, refl, ap, subst, inl, inr, ⊎_elim, arith, length-append}
 use mathlib.Core.Option.{some, some-injective}
 use lib.ListN.{get_elem?}

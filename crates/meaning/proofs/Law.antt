@@ -1,4 +1,4 @@
--- The law of verdicts, `law-of-verdicts`: CLOSED and OPEN tell the truth, and agree where the meanings of the labels do.
+-- The law of verdicts, `law_of_verdicts`: CLOSED and OPEN tell the truth, and agree where the meanings of the labels do.
 use Rattle.std.proofs.Common.{◌≡◌, ℕ, ◌≤◌, List, length, sym, ◌∙◌, subst, arith}
 use mathlib.Core.Option.{Option}
 use Rattle.meaning.specs.Terms.{Sheet, names, Full}

@@ -1,4 +1,4 @@
--- Each tuple in a term's value is as long as the term's arity says: `value-length`.
+-- Each tuple in a term's value is as long as the term's arity says: `value_length`.
 use Rattle.std.proofs.Common.{◌≡◌, ℕ, zero, suc, ◌+◌, ◌<◌, List, [], ◌∷◌, ◌++◌, reverse, length, sym, ap, ◌∙◌, subst, ⊎_elim, not-suc-le-zero, arith, length-append}
 use lib.ListN.{length-map, length-reverse}
 use Rattle.meaning.specs.Terms.{Op, variable, empty, single, union, inter, diff, transp, prod, join, closure, Row, Tm, node, term, RowIs, OpFits}

@@ -1,4 +1,4 @@
--- What a listing tells: the interpretation that the representatives list, `tells-listed`, and no other by names and members, `told_names` and `told-members`.
+-- What a listing tells: the interpretation that the representatives list, `tells_listed`, and no other by names and members, `told_names` and `told_members`.
 use Rattle.std.proofs.Common.{◌≡◌, ℕ, zero, suc, ◌+◌, ◌<◌, Bool, true, false, cond, eqb, ◌↔◌, List, [], ◌∷◌, ◌++◌, map, length, get_or, sym, refl, ap, ◌∙◌, subst, ⊎_elim, arith}
 use mathlib.Core.List.Memᴰ
 use mathlib.Core.List.{Memᴰ as Mem}

@@ -1,4 +1,4 @@
--- What every mix keeps: the sheet of a trial that is reached is full, `reached-full`, and its state comes by a run of the calculus on which the verdict rests, `reached-tried`.
+-- What every mix keeps: the sheet of a trial that is reached is full, `reached_full`, and its state comes by a run of the calculus on which the verdict rests, `reached_tried`.
 use Rattle.std.proofs.Common.{◌≡◌, ℕ, ◌+◌, ◌<◌, ◌≤◌, List, [], ◌∷◌, length, sym, refl, subst, ⊎_elim, arith, length-append}
 use mathlib.Core.Option.{Option}
 use Rattle.std.specs.List.{AllByRecursion as All}

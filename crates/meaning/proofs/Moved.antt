@@ -1,4 +1,4 @@
--- An injective map of the carrier carries the value of every term, `value-moved`, and the truth of every fact, `sat-moved`.
+-- An injective map of the carrier carries the value of every term, `value_moved`, and the truth of every fact, `sat_moved`.
 use Rattle.std.proofs.Common.{◌≡◌, ℕ, Bool, true, false, ◌↔◌, List, [], ◌∷◌, ◌++◌, map, reverse, sym, refl, ap, ◌∙◌, subst, ap₂, inl, inr, ⊎_elim, arith}
 use mathlib.Core.List.Memᴰ
 use mathlib.Core.List.{map-map, reverse_aux, reverse-reverse, head-eq_of_cons-eq, tail-eq_of_cons-eq}

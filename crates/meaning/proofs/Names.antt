@@ -1,4 +1,4 @@
--- What the names of a branch mean may be changed at fresh names: facts on the others keep their truth, `sat-old`.
+-- What the names of a branch mean may be changed at fresh names: facts on the others keep their truth, `sat_old`.
 use Rattle.std.proofs.Common.{◌≡◌, ℕ, zero, suc, ◌+◌, ◌-◌, ◌<◌, Bool, true, false, ◌↔◌, List, [], ◌∷◌, map, length, get_or, sym, refl, ap, ◌∙◌, subst, ap₂, arith}
 use mathlib.Core.List.{reverse_aux}
 use native.Mathlib.Decide.{dec_lt}

@@ -1,4 +1,4 @@
--- Each rule keeps an interpretation: where it satisfies the cited facts, some alternative is satisfied once the fresh names are given things: `rule-sound`.
+-- Each rule keeps an interpretation: where it satisfies the cited facts, some alternative is satisfied once the fresh names are given things: `rule_sound`.
 use Rattle.std.proofs.Common.{◌≡◌, ℕ, zero, suc, ◌+◌, ◌<◌, ◌≤◌, ◌⊎◌, List, [], ◌∷◌, ◌++◌, map, reverse, length, sym, refl, ap, ◌∙◌, subst, ap₂, inl, inr, ⊎_elim, arith, length-append}
 use mathlib.Core.List.{reverse-reverse, head-eq_of_cons-eq, tail-eq_of_cons-eq}
 use mathlib.Core.Option.{Option, some, some-injective}

@@ -1,4 +1,4 @@
--- Satisfaction depends on an interpretation only through the names of the sheet and the members of its variables: `satisfies-same`.
+-- Satisfaction depends on an interpretation only through the names of the sheet and the members of its variables: `satisfies_same`.
 use Rattle.std.proofs.Common.{◌≡◌, ℕ, zero, suc, ◌+◌, ◌<◌, Bool, true, false, ◌↔◌, List, [], ◌∷◌, ◌++◌, map, reverse, sym, ◌∙◌, subst, inl, inr, ⊎_elim, not-suc-le-zero, arith}
 use mathlib.Core.List.{Memᴰ as Mem}
 use Rattle.std.specs.List.{AllByRecursion as All}

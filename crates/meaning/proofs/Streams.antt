@@ -1,4 +1,4 @@
--- Two worked streams as mixes, so that the law speaks of something: one is reached with CLOSED, `stream-closed`, one with OPEN, `stream-open`.
+-- Two worked streams as mixes, so that the law speaks of something: one is reached with CLOSED, `stream_closed`, one with OPEN, `stream_open`.
 use Rattle.std.proofs.Common.{◌≡◌, ℕ, zero, suc, ◌<◌, ◌≤◌, cond, ltb, List, [], ◌∷◌, get_or, sym, refl, ◌∙◌, subst, ap₂, inl, inr, arith}
 use mathlib.Core.List.Memᴰ
 use mathlib.Core.List.{Memᴰ as Mem, head-eq_of_cons-eq, tail-eq_of_cons-eq}

@@ -1,5 +1,5 @@
 -- Over values that show the terms, a constraint is satisfied exactly where it holds by representatives
--- (`satisfied-exact`), so the first false one is the same: `first-is`.
+-- (`satisfied_exact`), so the first false one is the same: `first_is`.
 use Rattle.std.proofs.Common.{◌≡◌, ℕ, zero, suc, ◌<◌, ◌≤◌, Bool, true, false, cond, eqb, ◌↔◌, List, [], ◌∷◌, map, length, get_or, take, Some, None, Option, sym, refl, ap, ◌∙◌, subst, arith}
 use mathlib.Core.Option as maybe
 use lib.ListN.{length-map, get_elem?}

@@ -1,4 +1,4 @@
--- A value that shows a term lists its tuples exactly (`shown-exactly`), and more tuples than places are more than
+-- A value that shows a term lists its tuples exactly (`shown_exactly`), and more tuples than places are more than
 -- the term's list has (`crowded`).
 use Rattle.std.proofs.Common.{◌≡◌, ℕ, ◌<◌, List, [], ◌∷◌, map, length, sym, subst, inl, inr, ⊎_elim, arith}
 use mathlib.Core.List.Memᴰ

@@ -1,4 +1,4 @@
--- One turn of the test whether a value includes another (`includes-more`, `includes-not`), and a constraint from
+-- One turn of the test whether a value includes another (`includes_more`, `includes_not`), and a constraint from
 -- its form and its sign (`says_at`).
 use Rattle.std.proofs.Common.{◌≡◌, ℕ, ◌+◌, ◌-◌, ◌<◌, ◌≤◌, Bool, true, false, List, length, get_or, Decides, refl, subst, ⊎_elim, arith}
 use mathlib.Core.Bool.{beq}

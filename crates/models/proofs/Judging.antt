@@ -1,5 +1,5 @@
--- The answer after evaluation (`judged-over`, `judged-by`), after lawfulness (`answered-by`), and what a granted
--- model says of the things that its names mean (`satisfies-listed`).
+-- The answer after evaluation (`judged_over`, `judged_by`), after lawfulness (`answered_by`), and what a granted
+-- model says of the things that its names mean (`satisfies_listed`).
 use Rattle.std.proofs.Common.{◌≡◌, ℕ, ◌<◌, ◌≤◌, Bool, cond, List, map, length, take, Ok, Err, Option, sym, refl, ap, ◌∙◌, subst, ⊎_elim, arith, eq-eqb, le-leb}
 use mathlib.Core.Option as maybe
 use borrow.Author.Tests.{lt-leb}

@@ -1,4 +1,4 @@
--- The test of two labels by the kind's answer (`same-told`), where both names are labelled (`same-there`) and
+-- The test of two labels by the kind's answer (`same_told`), where both names are labelled (`same_there`) and
 -- where not (`not_there`).
 use Rattle.std.proofs.Common.{◌≡◌, ℕ, zero, suc, ◌<◌, ◌≤◌, Bool, true, false, cond, eqb, ◌⊎◌, List, [], ◌∷◌, length, get_or, refl, ap, ◌∙◌, inl, inr, arith}
 use mathlib.Core.Option.{Option, none, some}

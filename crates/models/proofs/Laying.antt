@@ -1,4 +1,4 @@
--- One row more of an evaluation: `valued-more` where it had room, `over` where it had none.
+-- One row more of an evaluation: `valued_more` where it had room, `over` where it had none.
 use Rattle.std.proofs.Common.{◌≡◌, ℕ, zero, suc, ◌+◌, ◌-◌, ◌<◌, ◌≤◌, ◌≢◌, List, map, length, get_or, set, Option, sym, ap, ◌∙◌, subst, ⊎_elim, arith}
 use lib.ListN.{length-map}
 use Rattle.std.proofs.lemmas.List.{get_or-set_same, get_or-set_other}

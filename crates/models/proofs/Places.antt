@@ -1,5 +1,5 @@
 -- Tuples in four places do what lists of names do: one behind another (`places-append`), without the last or the
--- first name, reversed (`places-reversed`); and their unused places stay zero (`flat_append`, `flat-reversed`).
+-- first name, reversed (`places_reversed`); and their unused places stay zero (`flat_append`, `flat_reversed`).
 use Rattle.std.proofs.Common.{◌≡◌, ℕ, zero, suc, ◌+◌, ◌-◌, ◌<◌, ◌≤◌, Bool, true, false, cond, eqb, List, [], ◌∷◌, ◌++◌, reverse, take, Some, None, sym, refl, ap, ◌∙◌, subst, zero-add, arith}
 use Rattle.std.proofs.lemmas.List.{take-append-le}
 use Rattle.std.proofs.lemmas.Bool.{eqb-true, eq-eqb}

@@ -1,4 +1,4 @@
--- What each operation makes of tuples shows what it makes of lists: from `shows-union` to `shows-closure`.
+-- What each operation makes of tuples shows what it makes of lists: from `shows_union` to `shows_closure`.
 use Rattle.std.proofs.Common.{◌≡◌, ℕ, ◌+◌, ◌<◌, ◌≤◌, true, false, ◌⊎◌, List, [], ◌∷◌, ◌++◌, reverse, sym, refl, ap, ◌∙◌, subst, inl, inr, ⊎_elim, arith}
 use Rattle.std.proofs.lemmas.List.{reverse-reverse, same_from_push}
 use Rattle.meaning.specs.Meaning.{Chain}

@@ -1,4 +1,4 @@
--- Whether a row passes, and what comes of a row of each sort: the parts of `row-added`.
+-- Whether a row passes, and what comes of a row of each sort: the parts of `row_added`.
 use Rattle.std.specs.Prelude.{ℕ, ◌+◌, Bool, cond, ◌&&◌, List, take, nat_le, nat_lt}
 use Rattle.std.proofs.Math.Option.{Option}
 use Rattle.records.specs.declared.refusal.Refusal.TheVariants.{NotDue}

@@ -1,4 +1,4 @@
--- Look-ups in the front of a list (`nth-kept`, `nth_cut`, `nth-over`), and a front cut again (`take-kept`).
+-- Look-ups in the front of a list (`nth_kept`, `nth_cut`, `nth_over`), and a front cut again (`take_kept`).
 use Rattle.std.proofs.Common.{◌≡◌, ℕ, ◌<◌, ◌≤◌, List, length, get_or, take, Some, None, sym, ap, ◌∙◌, arith}
 use Rattle.std.specs.List.{slice_get}
 use Rattle.std.proofs.lemmas.List.{length-take, get_or-take, take_all}

@@ -1,4 +1,4 @@
--- A front that is written over a list: one entry more (`put-more`), and all of it (`put_whole`).
+-- A front that is written over a list: one entry more (`put_more`), and all of it (`put_whole`).
 use Rattle.std.proofs.Common.{◌≡◌, ℕ, zero, suc, ◌+◌, ◌<◌, List, [], ◌∷◌, ◌++◌, length, get_or, take, drop, set, refl, ap, ◌∙◌, arith}
 use native.Mathlib.Numerals.{unary_clauses}
 use Rattle.std.proofs.lemmas.List.{take_all}

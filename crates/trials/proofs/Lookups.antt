@@ -1,5 +1,5 @@
--- Look-ups by either kind of option: an entry that is there is the one by default (`entry-there`), and two
--- labels compare as the kind answers for their codes (`same-labels`, `other-labels`, `lost-labels`).
+-- Look-ups by either kind of option: an entry that is there is the one by default (`entry_there`), and two
+-- labels compare as the kind answers for their codes (`same_labels`, `other_labels`, `lost_labels`).
 use Rattle.std.proofs.Common.{◌≡◌, ℕ, zero, suc, Bool, true, false, cond, eqb, List, [], ◌∷◌, get_or, Some, None, refl, ap, ◌∙◌, ap₂, arith}
 use mathlib.Core.Option.{Option, none, some}
 use lib.ListN.{get_elem?}

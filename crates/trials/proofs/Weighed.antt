@@ -1,5 +1,5 @@
--- The answer of the model check on fronts of the stores is the call's (`model-read`), and what a model leaves by
--- its answer is what the call leaves (`model-acted`).
+-- The answer of the model check on fronts of the stores is the call's (`model_read`), and what a model leaves by
+-- its answer is what the call leaves (`model_acted`).
 use Rattle.std.proofs.Common.{◌≡◌, ℕ, ◌<◌, ◌≤◌, Bool, true, false, cond, eqb, ltb, leb, List, length, take, IfOk, Ok, Err, Result, sym, refl, ap, ◌∙◌, subst, arith, take-take, le-ltb, eq-eqb}
 use mathlib.Core.Option.{Option}
 use borrow.Author.Tests.{lt-leb}

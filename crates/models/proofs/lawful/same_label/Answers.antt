@@ -8,8 +8,8 @@ use Rattle.models.proofs.lawful.same_label.Goals.{
 
 pub returns-then-e-labels : goal.returns-then-e-labels
 returns-then-e-labels g c =
-    c.same_codes.ensures
-    ∙ sym (same_there (g.K.Kind.meaning c.args.kind.now) c.args.labels.now c.args.d c.args.e (omega arith) (omega arith))
+    let there = same_there (g.K.Kind.meaning c.args.kind.now) c.args.labels.now c.args.d c.args.e (omega arith) (omega arith) in
+    cc
 
 pub returns-else-d-labels : goal.returns-else-d-labels
 returns-else-d-labels g c =
