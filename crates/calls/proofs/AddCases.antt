@@ -1,5 +1,5 @@
 -- What the subject asks of a row that it grants, by how the code reads the row (`case_of`).
-use Rattle.std.proofs.Common.{◌≡◌, ℕ, ◌<◌, ◌≤◌, true, List, [], ◌∷◌, length, sym, refl, ap, subst}
+use Rattle.std.proofs.Common.{◌≡◌, ℕ, ◌<◌, ◌≤◌, true, List, length, sym, refl, ap, subst}
 use mathlib.Core.Option.{Option}
 use Rattle.records.specs.declared.refusal.Refusal.{Refusal}
 use Rattle.records.specs.declared.record.RowRecord.{RowRecord}

@@ -1,5 +1,5 @@
 -- The subject grants a call at most one stage, where it is read from numbers and stores (`single`).
-use Rattle.std.proofs.Common.{◌≡◌, ℕ, ◌+◌, ◌*◌, ◌⊎◌, List, [], ◌∷◌, length, drop, sym, refl, ap, ◌∙◌, subst, inl, inr, arith}
+use Rattle.std.proofs.Common.{◌≡◌, ℕ, ◌⊎◌, List, [], length, drop, sym, refl, ap, ◌∙◌, subst, inl, inr, arith}
 use mathlib.Core.Option.{Option, none}
 use Rattle.records.specs.declared.record.RowRecord.{RowRecord}
 use Rattle.records.specs.declared.record.RowRecord.TheVariants as row
@@ -13,14 +13,13 @@ use Rattle.meaning.specs.Mixes.{Stage, filling, trying, settled, Call, add, seal
 use Rattle.meaning.specs.Mixes.{Grants, label_row, term_row, constraint_row, full_sheet, rule_step, model_step}
 use Rattle.meaning.specs.Mixes.{verdict_there}
 use Rattle.meaning.specs.Mixes as subject
-use Rattle.calls.specs.Reading.{read_row, write_row, read_fact, write_fact, read_sheet, Good}
-use Rattle.calls.specs.Bridge.{Fair}
+use Rattle.calls.specs.Reading.{read_row, write_row, read_fact, write_fact, Good}
 use Rattle.calls.specs.Stores.{Held}
 use Rattle.calls.specs.Sheets.{Filling, Counts, fact_said}
 use Rattle.calls.specs.RuleSteps.{branch_facts}
 use Rattle.calls.specs.Trials.{plain_of, branch_of}
 use Rattle.calls.specs.Views.{Orderly, Whole, Live, LiveBy, plain_in, read_draft, state_of, state_by, verdict_by, read_trial}
-use Rattle.calls.specs.Runs.{Place, sheet, trial, ended, read_place, Sound}
+use Rattle.calls.specs.Runs.{sheet, trial, ended}
 use Rattle.calls.proofs.Granted as rows
 use Rattle.calls.proofs.Bridge.{bridged}
 use Rattle.calls.proofs.Written.{fact_back}

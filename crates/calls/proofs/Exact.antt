@@ -1,5 +1,5 @@
 -- A term row, or a constraint, that fits passes its tests (`row_passes`, `fact_passes`).
-use Rattle.std.proofs.Common.{◌≡◌, ℕ, zero, suc, ◌+◌, ◌<◌, ◌≤◌, Bool, true, false, cond, eqb, ltb, leb, List, [], ◌∷◌, length, get_or, sym, refl, ap, ◌∙◌, subst, ap₂, arith, ltb-false, ltb-true, lt-ltb, eq-eqb, le-leb}
+use Rattle.std.proofs.Common.{◌≡◌, ℕ, zero, suc, ◌+◌, ◌<◌, ◌≤◌, Bool, true, false, cond, eqb, ltb, leb, List, [], ◌∷◌, length, get_or, sym, refl, ◌∙◌, subst, ap₂, arith, ltb-false, ltb-true, lt-ltb, eq-eqb, le-leb}
 use Rattle.std.specs.List.{AllByRecursion as All}
 use Rattle.records.specs.declared.rows.Fact.{Fact as FactRow}
 use Rattle.records.specs.declared.rows.TermRow.{TermRow}
@@ -11,7 +11,7 @@ use Rattle.meaning.specs.Terms.{Form, member, equal, same, names, Arity, OpFits,
 use Rattle.calls.specs.Reading.{names_of, read_row, read_form, write_form, row_of, write_op, Plain, read_sheet}
 use Rattle.calls.specs.Reading.{RowFits, FactFits}
 use Rattle.calls.specs.Tests.{place_ok, places, in_tests, same_tests, alike_tests, fact_ok, row_tests, row_ok}
-use Rattle.calls.proofs.Truth.{eqb_self, and_true, all_hold}
+use Rattle.calls.proofs.Truth.{and_true, all_hold}
 use Rattle.calls.proofs.Tuples.{past}
 use Rattle.calls.proofs.Rows.{arity_of, term_below}
 

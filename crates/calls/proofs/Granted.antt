@@ -1,15 +1,13 @@
 -- Rows are granted exactly where they fit, and a sheet whose rows passed as they came is fair (`granted`).
-use Rattle.std.proofs.Common.{◌≡◌, ℕ, ◌<◌, ◌≤◌, true, List, [], ◌∷◌, ◌++◌, map, length, take, drop, sym, refl, ap, ◌∙◌, subst, arith, take-append-drop, length-take}
-use mathlib.Core.Option.{some}
-use lib.ListN.{get_elem?}
+use Rattle.std.proofs.Common.{◌≡◌, ℕ, ◌<◌, List, [], ◌∷◌, map, length, take, drop, sym, ap, ◌∙◌, arith, take-append-drop, length-take}
 use Rattle.std.specs.List.{AllByRecursion as All}
 use Rattle.records.specs.declared.rows.Fact.{Fact as FactRow}
 use Rattle.records.specs.declared.rows.TermRow.{TermRow}
 use Rattle.meaning.specs.Terms.{Fact, names, FormFits}
-use Rattle.calls.specs.Reading.{Plain, read_sheet, read_fact, RowsFit, FactFits, Good}
+use Rattle.calls.specs.Reading.{Plain, read_sheet, read_fact, RowsFit, FactFits}
 use Rattle.calls.specs.Bridge.{Fair}
-use Rattle.calls.specs.Tests.{row_ok, fact_ok}
-use Rattle.calls.specs.Granted.{Passed, SheetGranted, Granted}
+use Rattle.calls.specs.Tests.{row_ok}
+use Rattle.calls.specs.Granted.{Passed, Granted}
 use Rattle.calls.proofs.Lookups.{below}
 use Rattle.calls.proofs.Tested.{row_fits, fact_fits}
 use Rattle.calls.proofs.Exact.{row_passes, fact_passes}

@@ -1,26 +1,26 @@
 -- The lines that are listed from numbers and stores are the subject's listing of the trial read from them
 -- (`listing_exact`).
-use Rattle.std.proofs.Common.{◌≡◌, ℕ, zero, suc, ◌<◌, Bool, true, false, cond, ◌&&◌, eqb, ltb, List, [], ◌∷◌, ◌++◌, map, length, take, sym, refl, ap, ◌∙◌, subst, inl, inr, arith}
+use Rattle.std.proofs.Common.{◌≡◌, ℕ, zero, suc, Bool, true, false, cond, ◌&&◌, eqb, ltb, List, [], ◌∷◌, ◌++◌, map, length, take, sym, refl, ap, ◌∙◌, inl, inr, arith}
 use lib.ListN.{get_elem?}
 use Rattle.std.specs.List.{flat_map}
-use Rattle.std.proofs.lemmas.Bool.{ne_eqb, le-ltb, lt-ltb, cases_lt}
+use Rattle.std.proofs.lemmas.Bool.{le-ltb, lt-ltb, cases_lt}
 use Rattle.records.specs.declared.rows.Fact.{Fact as FactRow}
 use Rattle.records.specs.declared.rows.TermRow.{TermRow}
 use Rattle.records.specs.declared.verdict.Verdict.{Verdict}
 use Rattle.records.specs.declared.verdict.Verdict.TheVariants as verdict
 use Rattle.rules.specs.Looked.{row_at}
-use Rattle.meaning.specs.Terms.{Op, variable, empty, single, union, inter, diff, transp, prod, join, closure}
-use Rattle.meaning.specs.Terms.{Fact, Sheet, member, equal, same}
+use Rattle.meaning.specs.Terms.{variable, empty, single, union, inter, diff, transp, prod, join, closure}
+use Rattle.meaning.specs.Terms.{Sheet, member, equal, same}
 use Rattle.meaning.specs.Model.{rep, is_variable, row_is_variable}
-use Rattle.meaning.specs.Text.{Line, opened, inside}
-use Rattle.meaning.specs.Mixes.{name_lines, in_line, in_lines, facts_of, verdict_lines, listing}
-use Rattle.calls.specs.Reading.{op_of, four, read_row, tuple_of, read_form, read_fact, read_sheet}
+use Rattle.meaning.specs.Text.{opened, inside}
+use Rattle.meaning.specs.Mixes.{name_lines, in_line, in_lines, facts_of, verdict_lines}
+use Rattle.calls.specs.Reading.{op_of, four, read_row, tuple_of, read_fact, read_sheet}
 use Rattle.calls.specs.Stores.{Held}
 use Rattle.calls.specs.Sheets.{Counts}
 use Rattle.calls.specs.RuleSteps.{rows_of, branch_facts}
 use Rattle.calls.specs.Trials.{plain_of}
-use Rattle.calls.specs.Views.{state_by, verdict_by, read_trial}
-use Rattle.calls.specs.Listing.{is_listed, fact_lines, lines_by, lines_of}
+use Rattle.calls.specs.Views.{state_by, verdict_by}
+use Rattle.calls.specs.Listing.{fact_lines, lines_by}
 use Rattle.calls.specs.Runs.{ListingIsExact}
 
 -- none of the other operations is a variable

@@ -1,15 +1,12 @@
 -- A trial of the functions that a run after a granted make comes to is reached in the subject's words
 -- (`functions_reach_by`).
-use Rattle.std.proofs.Common.{◌≡◌, ℕ, ◌⊎◌, List, Ok, Result, sym, refl, ap, ◌∙◌, subst, inl, inr}
-use mathlib.Core.Option.{Option}
-use Rattle.records.specs.declared.refusal.Refusal.{Refusal}
-use Rattle.meaning.specs.Mixes.{Draft, fresh, Stage, filling, trying, settled, Call, Mix}
-use Rattle.meaning.specs.Law.{Reaches}
-use Rattle.calls.specs.Stores.{Held, Enough}
-use Rattle.calls.specs.Sheets.{Filling, Counts, make_of}
-use Rattle.calls.specs.Views.{Whole, read_draft, read_trial}
+use Rattle.std.proofs.Common.{◌≡◌, ◌⊎◌, ap, subst, inl, inr}
+use Rattle.meaning.specs.Mixes.{Draft, filling, trying, settled, Mix}
+use Rattle.calls.specs.Stores.{Held}
+use Rattle.calls.specs.Sheets.{Counts}
+use Rattle.calls.specs.Views.{Whole, read_trial}
 use Rattle.calls.specs.Exact.{MakeExact}
-use Rattle.calls.specs.Runs.{Place, sheet, trial, ended, read_place, Sound, run, Turns, RunsAreExact, RunsAreSound}
+use Rattle.calls.specs.Runs.{Place, sheet, trial, ended, read_place, Sound, run, RunsAreExact, RunsAreSound}
 use Rattle.calls.specs.Runs.{FunctionsReach}
 use Rattle.calls.proofs.MakeExact.{make_exact}
 

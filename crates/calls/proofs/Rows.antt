@@ -1,12 +1,12 @@
 -- Rows of a good sheet: each is what is written of it (`row_of`), and the sheet that is read is full
 -- (`full`).
-use Rattle.std.proofs.Common.{◌≡◌, ℕ, ◌<◌, ◌≤◌, true, eqb, length, take, sym, refl, ap, ◌∙◌, subst, arith, eqb-true}
+use Rattle.std.proofs.Common.{◌≡◌, ℕ, ◌<◌, ◌≤◌, true, eqb, length, take, sym, ap, ◌∙◌, subst, arith, eqb-true}
 use mathlib.Core.Option.{some}
 use Rattle.records.specs.declared.rows.TermRow.{TermRow}
 use Rattle.rules.specs.Facts.{no_row}
 use Rattle.rules.specs.Looked.{row_at}
-use Rattle.meaning.specs.Terms.{Op, Row, Sheet, names, RowIs, Is, Arity, OpFits, Full}
-use Rattle.calls.specs.Reading.{op_of, four, read_row, write_op, write_row, Plain, read_sheet, RowFits, Good}
+use Rattle.meaning.specs.Terms.{Op, Row, names, RowIs, Is, Arity, OpFits, Full}
+use Rattle.calls.specs.Reading.{op_of, four, read_row, write_op, write_row, Plain, read_sheet, Good}
 use Rattle.calls.proofs.Lookups.{unmap, remap, got, there, there_at, below}
 
 module _ (P : Plain) where

@@ -1,18 +1,18 @@
 -- One call of the functions goes exactly where the subject goes (`call-exact`), and so does a whole run
 -- (`runs-exact`).
-use Rattle.std.proofs.Common.{◌≡◌, ℕ, List, [], ◌∷◌, Ok, Err, Result, sym, refl, ◌∙◌, subst}
+use Rattle.std.proofs.Common.{◌≡◌, ℕ, List, [], ◌∷◌, Ok, Err, Result, sym, refl, subst}
 use mathlib.Core.Option.{Option}
 use Rattle.records.specs.declared.refusal.Refusal.{Refusal}
 use Rattle.records.specs.declared.verdict.Verdict.{Verdict}
 use Rattle.records.specs.declared.verdict.Verdict.TheVariants as verdict
-use Rattle.meaning.specs.Mixes.{Stage, filling, trying, settled, Call, add, seal, step, settle}
+use Rattle.meaning.specs.Mixes.{Stage, trying, Call, add, seal, step, settle}
 use Rattle.meaning.specs.Mixes.{Turn, Grants, Goes, granted, denied, denied_at, Mix, end, next, counted, one_more}
 use Rattle.calls.specs.Stores.{Held}
-use Rattle.calls.specs.Sheets.{Filling, Counts, add_of, seal_of}
+use Rattle.calls.specs.Sheets.{Filling, Counts, seal_of}
 use Rattle.calls.specs.RuleSteps.{denied_once}
-use Rattle.calls.specs.Trials.{plain_of, step_of, settle_of}
+use Rattle.calls.specs.Trials.{plain_of, settle_of}
 use Rattle.calls.specs.Reading.{read_sheet}
-use Rattle.calls.specs.Views.{Orderly, Whole, LiveBy, state_by, verdict_by, read_draft, read_trial}
+use Rattle.calls.specs.Views.{Orderly, Whole, LiveBy, state_by, verdict_by, read_trial}
 use Rattle.calls.specs.Exact.{Denied, AddExact, AddIsExact, SealExact, SealIsExact, StepExact, StepIsExact, SettleExact}
 use Rattle.calls.specs.Exact.{SettleIsExact}
 use Rattle.calls.specs.Runs.{Place, sheet, trial, ended, read_place, Sound, after_seal, after_settle, called, run, Turns}

@@ -1,5 +1,5 @@
 -- The rules on equalities, names and labels are seen by their tests: 10, 11 and 21 to 25, one lemma each.
-use Rattle.std.proofs.Common.{◌≡◌, ℕ, zero, suc, ◌<◌, Bool, true, false, not, ◌&&◌, ◌||◌, eqb, ltb, List, [], ◌∷◌, ◌++◌, length, get_or, take, drop, sym, refl, ap, ◌∙◌, subst, ⊎_elim, arith, length-take, ltb-true, eqb-true}
+use Rattle.std.proofs.Common.{◌≡◌, ℕ, zero, suc, ◌<◌, true, not, ◌&&◌, ◌||◌, eqb, ltb, List, [], ◌∷◌, ◌++◌, length, get_or, take, drop, sym, refl, ap, ◌∙◌, subst, ⊎_elim, arith, length-take, ltb-true, eqb-true}
 use mathlib.Core.Option.{Option}
 use borrow.Author.Tests.{not-true}
 use Rattle.std.proofs.lemmas.List.{set_split, set-get_or}
@@ -9,7 +9,7 @@ use Rattle.rules.specs.Tuples.{name_at}
 use Rattle.rules.specs.Facts.{fact_names}
 use Rattle.rules.specs.Rules.{self_unequal, negated_by}
 use Rattle.rules.specs.Looked.{row_at, label_at}
-use Rattle.meaning.specs.Terms.{member, equal, same, Fact, signed, pos, neg, Arity}
+use Rattle.meaning.specs.Terms.{member, equal, same, signed, pos, neg, Arity}
 use Rattle.meaning.specs.Calculus.{just, Rule, set_diseq, eq_unsat_names, eq_unsat_terms, eq_unsat_both}
 use Rattle.meaning.specs.Calculus.{sym_names, sym_terms, swap_name_member, swap_name_left, swap_name_right}
 use Rattle.meaning.specs.Calculus.{swap_term_member, swap_term_left, swap_term_right, label_unsat, label_same}

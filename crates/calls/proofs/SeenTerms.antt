@@ -12,7 +12,7 @@ use Rattle.meaning.specs.Calculus.{Alt, Rule, inter_up, inter_down, union_up, un
 use Rattle.meaning.specs.Calculus.{single_up, single_down, empty_unsat, transp_up, transp_down}
 use Rattle.meaning.specs.Calculus.{join_up, join_down}
 use Rattle.meaning.specs.Calculus.{prod_up, prod_down, tclos_up_one, tclos_up_two, tclos_down}
-use Rattle.calls.specs.Reading.{four, tuple_of, op_of, Plain, read_sheet, Good}
+use Rattle.calls.specs.Reading.{four, tuple_of, Plain, read_sheet, Good}
 use Rattle.calls.specs.Passing.{from_none, from_one, from_two, Found}
 use Rattle.meaning.proofs.RuleFits.{to, of, both, fit}
 use Rattle.calls.proofs.Truth.{or_split}

@@ -1,13 +1,13 @@
 -- The test of a row over the rows before it is the test over all rows (`row_stays`), and so is what it asks.
-use Rattle.std.proofs.Common.{◌≡◌, ℕ, ◌+◌, ◌<◌, ◌≤◌, Bool, true, false, cond, ◌&&◌, eqb, ltb, leb, List, [], ◌∷◌, ◌++◌, length, refl, ap, ap₂, arith, ltb-true}
+use Rattle.std.proofs.Common.{◌≡◌, ℕ, ◌+◌, ◌<◌, Bool, true, false, cond, ◌&&◌, eqb, ltb, leb, List, [], ◌∷◌, ◌++◌, refl, ap, ap₂, arith, ltb-true}
 use lib.ListN.{get_or-append}
 use Rattle.records.specs.declared.rows.TermRow.{TermRow}
 use Rattle.rules.specs.Facts.{no_row}
 use Rattle.rules.specs.Rules.{all_of}
 use Rattle.rules.specs.Looked.{row_at}
 use Rattle.meaning.specs.Terms.{Op, variable, empty, single, union, inter, diff, transp, prod, join, closure}
-use Rattle.meaning.specs.Terms.{Row, Arity, Before, OpFits}
-use Rattle.calls.specs.Tests.{row_tests, row_ok}
+use Rattle.meaning.specs.Terms.{Before, OpFits}
+use Rattle.calls.specs.Tests.{row_tests}
 use Rattle.calls.specs.Granted.{RowStays, OpStays}
 use Rattle.calls.proofs.Lookups.{ahead}
 

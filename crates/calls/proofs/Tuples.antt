@@ -1,6 +1,5 @@
 -- Tuples in four fields do what lists of names do: reversed (`reversed_is`), joined, split, changed.
-use Rattle.std.proofs.Common.{◌≡◌, ℕ, zero, suc, ◌+◌, ◌-◌, ◌<◌, ◌≤◌, Bool, true, false, cond, eqb, List, [], ◌∷◌, ◌++◌, reverse, length, get_or, take, drop, sym, refl, ap, ◌∙◌, subst, arith}
-use Rattle.rules.specs.declared.cited.Names.{Names}
+use Rattle.std.proofs.Common.{◌≡◌, ℕ, zero, suc, ◌+◌, ◌-◌, ◌<◌, ◌≤◌, List, [], ◌∷◌, ◌++◌, reverse, length, get_or, take, sym, refl, ap, arith}
 use Rattle.rules.specs.Tuples as tuple
 use Rattle.rules.specs.Tuples.{reversed, joined, rest_from, name_at, name_put, fresh_names, before_all}
 use Rattle.rules.specs.Tuples.{pair_of}

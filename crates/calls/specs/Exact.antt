@@ -6,8 +6,8 @@ use Rattle.records.specs.declared.refusal.Refusal.{Refusal}
 use Rattle.meaning.specs.Mixes.{Header, Made, fresh, Stage, filling, trying, settled, Grants}
 use Rattle.meaning.specs.Mixes as subject
 use Rattle.calls.specs.Stores.{Held, Enough}
-use Rattle.calls.specs.Sheets.{Filling, Counts, Added, make_of, add_of, seal_of}
-use Rattle.calls.specs.RuleSteps.{Stepped, denied_once}
+use Rattle.calls.specs.Sheets.{Filling, Counts, make_of, add_of, seal_of}
+use Rattle.calls.specs.RuleSteps.{denied_once}
 use Rattle.calls.specs.Trials.{step_of, settle_of}
 use Rattle.calls.specs.Views.{Orderly, Whole, read_draft, read_trial}
 

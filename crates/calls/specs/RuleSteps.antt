@@ -1,5 +1,5 @@
 -- A step by a rule on the numbers of a trial and the records in its stores: what it comes to, what it leaves.
-use Rattle.std.specs.Prelude.{ℕ, ◌+◌, ◌-◌, Bool, false, cond, List, take, Ok, Err, Option, Result, ◌==◌, nat_lt, slice_set}
+use Rattle.std.specs.Prelude.{ℕ, ◌+◌, ◌-◌, false, cond, List, take, Ok, Err, Option, Result, ◌==◌, nat_lt, slice_set}
 use Rattle.std.proofs.Math.Option as maybe
 use Rattle.std.specs.List.{slice_get}
 use Rattle.std.specs.declared.option.Option.TheVariants as option

@@ -1,5 +1,5 @@
 -- What the lent stores hold: six lists, of which the tuple store counts by its length alone.
-use Rattle.std.specs.Prelude.{ℕ, ◌≤◌, Bool, ◌&&◌, List, ◌++◌, length, nat_le}
+use Rattle.std.specs.Prelude.{ℕ, ◌≤◌, Bool, ◌&&◌, List, length, nat_le}
 use Rattle.records.specs.declared.rows.Fact.{Fact}
 use Rattle.records.specs.declared.rows.TermRow.{TermRow}
 use Rattle.rules.specs.declared.outcome.Fork.{Fork}

@@ -1,7 +1,6 @@
 -- The calls step and settle as functions: what each answers, and the trial and the stores then.
-use Rattle.std.specs.Prelude.{ℕ, Bool, cond, List, ◌++◌, length, take, drop, Ok, Err, Result, ◌==◌, nat_le}
+use Rattle.std.specs.Prelude.{ℕ, cond, List, ◌++◌, length, take, drop, Ok, Err, Result, ◌==◌, nat_le}
 use Rattle.std.proofs.Math.Option.{Option}
-use Rattle.records.specs.declared.rows.Fact.{Fact as FactRow}
 use Rattle.records.specs.declared.refusal.Refusal.{Refusal}
 use Rattle.records.specs.declared.refusal.Refusal.TheVariants.{
   StoresShort,

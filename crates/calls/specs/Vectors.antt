@@ -1,6 +1,5 @@
 -- Worked examples, computed by the call functions from the bytes of their records.
-use Rattle.std.specs.Prelude.{◌≡◌, ℕ, true, false, List, [], ◌∷◌, ◌++◌, replicate, Ok, Err, Result}
-use Rattle.std.proofs.Math.Option.{Option}
+use Rattle.std.specs.Prelude.{◌≡◌, ℕ, true, List, [], ◌∷◌, ◌++◌, replicate, Ok, Err, Result}
 use Rattle.records.specs.declared.refusal.Refusal.{Refusal}
 use Rattle.records.specs.declared.refusal.Refusal.TheVariants.{
   NotDue,
@@ -10,7 +9,6 @@ use Rattle.records.specs.declared.refusal.Refusal.TheVariants.{
   ConstraintFalse,
 }
 use Rattle.records.specs.declared.rule.Rule.TheVariants.{InterUp}
-use Rattle.records.specs.declared.rows.Header.{Header}
 use Rattle.rules.specs.declared.outcome.Fork.{Fork}
 use Rattle.rules.specs.Facts.{no_fact, no_row}
 use Rattle.labels.specs.declared.sameness.Sameness.TheVariants.{Same}

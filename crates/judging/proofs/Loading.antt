@@ -1,5 +1,5 @@
 -- Pairs taken in one after another: the layer's answers make up what is loaded, and a refusal stays.
-use Rattle.std.proofs.Common.{◌≡◌, ℕ, zero, suc, ◌+◌, ◌-◌, ◌/◌, ◌%◌, ◌<◌, ◌≤◌, true, cond, List, length, Ok, Err, Result, sym, ap, ◌∙◌, subst, add-one, arith, le-ltb, eq-eqb}
+use Rattle.std.proofs.Common.{◌≡◌, ℕ, zero, suc, ◌+◌, ◌-◌, ◌/◌, ◌%◌, ◌<◌, ◌≤◌, true, cond, List, length, Ok, Err, sym, ap, ◌∙◌, subst, add-one, arith, le-ltb, eq-eqb}
 use Rattle.records.specs.declared.refusal.Refusal.{Refusal}
 use Rattle.records.specs.declared.refusal.Refusal.TheVariants.{RenamesIll}
 use Rattle.labels.specs.declared.pair.Pair.{Pair}

@@ -1,5 +1,5 @@
 -- The line that a refusal is printed as.
-use Rattle.std.specs.Prelude.{ℕ, List, [], ◌∷◌, ◌++◌, codes, decimal}
+use Rattle.std.specs.Prelude.{ℕ, List, ◌++◌, codes, decimal}
 
 -- REFUSED, and the number, the record and the detail, each after a blank
 abbrev pub refused_line : ℕ → ℕ → ℕ → List ℕ

@@ -1,5 +1,5 @@
 -- A pair that is neither one too many nor second for its old code is granted.
-use Rattle.std.proofs.Common.{◌≡◌, ℕ, ◌<◌, ◌≤◌, false, List, length, Ok, sym, subst}
+use Rattle.std.proofs.Common.{◌≡◌, ℕ, ◌<◌, false, List, length, Ok}
 use borrow.Author.Tests.{lt-leb}
 use Rattle.labels.specs.Renames.{held_old, rename_answer}
 use Rattle.labels.specs.declared.pair.Pair.{Pair}

@@ -4,7 +4,6 @@ use Rattle.std.proofs.Common.{◌≡◌, ℕ, zero, suc, Bool, true, false, cond
 use mathlib.Core.Option.{Option, none, some}
 use lib.ListN.{get_elem?}
 use Rattle.std.specs.List.{slice_get}
-use Rattle.std.specs.declared.option.Option as std
 use Rattle.labels.specs.Kinds.{sameness_by, sameness}
 use Rattle.labels.specs.declared.sameness.Sameness.TheVariants.{Same, Different, NoValue}
 use Rattle.rules.specs.Looked.{label_at, coded, compared}

@@ -1,11 +1,10 @@
 -- The answer of the model check on fronts of the stores is the call's (`model_read`), and what a model leaves by
 -- its answer is what the call leaves (`model_acted`).
-use Rattle.std.proofs.Common.{◌≡◌, ℕ, ◌<◌, ◌≤◌, Bool, true, false, cond, eqb, ltb, leb, List, length, take, IfOk, Ok, Err, Result, sym, refl, ap, ◌∙◌, subst, arith, take-take, le-ltb, eq-eqb}
+use Rattle.std.proofs.Common.{◌≡◌, ℕ, ◌<◌, Bool, true, false, cond, eqb, leb, List, length, take, IfOk, Ok, Err, Result, sym, refl, ap, ◌∙◌, subst, arith, take-take, le-ltb, eq-eqb}
 use mathlib.Core.Option.{Option}
 use borrow.Author.Tests.{lt-leb}
 use Rattle.records.specs.declared.refusal.Refusal.TheVariants.{RecordsSpent, NotStep, StoresShort}
 use Rattle.records.specs.declared.refusal.Refusal.{Refusal}
-use Rattle.records.specs.declared.rows.Fact.{Fact}
 use Rattle.records.specs.declared.verdict.Verdict.{Verdict}
 use Rattle.records.specs.declared.verdict.Verdict.TheVariants as verdict
 use Rattle.records.specs.Reading.{Move, model, step_in}
@@ -19,7 +18,7 @@ use Rattle.calls.specs.RuleSteps.{Stepped, at_most, left_denied, branch_facts, c
 use Rattle.calls.specs.Trials.{plain_of, branch_of, model_done, stepped_at, step_of}
 use Rattle.calls.specs.Views.{Whole, LiveBy}
 use Rattle.models.specs.Checks.{Answers, sheet_of}
-use Rattle.trials.specs.Steps.{weighed, weighed_at, answered}
+use Rattle.trials.specs.Steps.{weighed_at, answered}
 
 -- the constraints are the first facts of the branch
 constraints_are :

@@ -1,6 +1,6 @@
 -- Tuples are the same exactly where their test says so (`same_law`); what an insertion leaves (`stood`,
 -- `added`), one turn of a search, and operands that are still there.
-use Rattle.std.proofs.Common.{◌≡◌, ℕ, ◌+◌, ◌-◌, ◌<◌, ◌≤◌, Bool, true, false, ◌||◌, eqb, List, length, get_or, take, Decides, sym, refl, ap, ◌∙◌, subst, arith}
+use Rattle.std.proofs.Common.{◌≡◌, ℕ, ◌+◌, ◌<◌, ◌≤◌, Bool, true, false, ◌||◌, eqb, List, length, get_or, take, Decides, sym, refl, ap, ◌∙◌, subst, arith}
 use Rattle.std.proofs.lemmas.Bool.{and_parts, and_from, eqb-true, eq-eqb, or_left, both_ways}
 use Rattle.std.proofs.lemmas.List.{length-take, drop_all}
 use Rattle.values.specs.Store.{same_tuple, value, no_tuple, Below, Stands, Lies}

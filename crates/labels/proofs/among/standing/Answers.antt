@@ -1,5 +1,4 @@
-use Rattle.std.proofs.Common.{◌≡◌, true, cond, sym, ap, ◌∙◌}
-use Rattle.labels.specs.Kinds.{known_by}
+use Rattle.std.proofs.Common.{cond, sym, ap, ◌∙◌}
 use Rattle.labels.specs.Among.{is_same, first_same}
 use Rattle.labels.specs.declared.standing.Standing.TheVariants.{Unknown}
 use Rattle.labels.proofs.Passing.{same_passed, same_met, same_none}

@@ -1,4 +1,4 @@
-use Rattle.std.proofs.Common.{sym, ◌∙◌, inl, inr, arith}
+use Rattle.std.proofs.Common.{sym, inl, inr, arith}
 use Rattle.models.proofs.Labels.{same_there, not_there}
 use Rattle.models.proofs.lawful.same_label.Goals as goal
 use Rattle.models.proofs.lawful.same_label.Goals.{

@@ -1,4 +1,4 @@
-use Rattle.std.proofs.Common.{◌≡◌, ap, ◌∙◌, rules}
+use Rattle.std.proofs.Common.{ap, ◌∙◌, rules}
 use Rattle.calls.specs.Stores.{Held}
 use Rattle.stores.specs.View.{held}
 use Rattle.trials.specs.View.{counts}

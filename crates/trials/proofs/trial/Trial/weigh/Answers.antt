@@ -1,4 +1,4 @@
-use Rattle.std.proofs.Common.{◌≡◌, ℕ, ◌<◌, ◌≤◌, length, arith, rules}
+use Rattle.std.proofs.Common.{◌≡◌, ◌<◌, ◌≤◌, length, arith, rules}
 use Rattle.stores.specs.View.{held}
 use Rattle.trials.specs.View.{counts}
 use Rattle.trials.proofs.Weighed.{model_read, undecided, either_way}
