@@ -5,7 +5,7 @@ use Rattle.std.proofs.Math.Option.{Option}
 use Rattle.records.specs.declared.refusal.Refusal.{Refusal}
 use Rattle.records.specs.declared.refusal.Refusal.TheVariants.{StoresShort}
 use Rattle.records.specs.Refusals.{number_of, detail_of}
-use Rattle.meaning.specs.Text.{Line, refused, text}
+use Rattle.meaning.specs.Text.{refused, text}
 use Rattle.calls.specs.Stores.{Held, enough}
 use Rattle.calls.specs.Sheets.{Filling, Counts, make_of, add_of, seal_of, rows_due}
 use Rattle.calls.specs.Trials.{step_of, settle_of}

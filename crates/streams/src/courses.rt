@@ -10,8 +10,8 @@ ghost use Rattle.trials.specs.View.{counts};
 ghost use Rattle.streams.specs.Cutting.{records_of};
 ghost use Rattle.streams.specs.Judging.{or_stopped, settled, steps_from, rows_from, course};
 ghost use Rattle.streams.specs.View.{ended};
-use super::cutting::Left;
-use super::cutting::cut_off;
+
+use super::cutting::{Left, cut_off};
 use super::rows::add_rows;
 use super::steps::take_steps;
 use super::stop::Stop;
@@ -23,7 +23,7 @@ use trials::trial::Trial;
 
 // Settles a trial whose steps are made; a refusal counts as one past the last record.
 fn settle(trial: Trial, record: u32) -> Result<Settled, Stop>
-    ensures { (h : Held) → or_stopped (settle_of (counts trial)) (settled (counts trial) h) record h
+    ensures { (h : Held) → or_stopped (settle_of (counts trial)) (settled (counts trial) h) «record» h
         ≡ ended result h }
 {
     match trial.settle() {
@@ -44,9 +44,9 @@ fn try_steps<K: Kind>(
     left: Left,
 ) -> Result<Settled, Stop>
     requires whole { Whole (counts trial) (held stores.old) }
-    requires few { left.«record» ≤ 226 }
+    requires few { left.record ≤ 226 }
     ensures course { steps_from (K.Kind.meaning kind.now) (counts trial)
-        (held stores.old) left.«record» (records_of left.rest.now)
+        (held stores.old) left.entry.record (records_of left.entry.rest.now)
         ≡ ended result (held stores.new) }
     ensures same { Same stores.old stores.new }
 {
@@ -67,9 +67,9 @@ fn try_sheet<K: Kind>(
     left: Left,
 ) -> Result<Settled, Stop>
     requires orderly { Orderly (filling_of sheet) (held stores.old) }
-    requires few { left.«record» ≤ 226 }
+    requires few { left.record ≤ 226 }
     ensures course { rows_from (K.Kind.meaning kind.now) 0 (filling_of sheet)
-        (held stores.old) left.«record» (records_of left.rest.now)
+        (held stores.old) left.entry.record (records_of left.entry.rest.now)
         ≡ ended result (held stores.new) }
     ensures same { Same stores.old stores.new }
 {
@@ -109,11 +109,7 @@ fn fill<K: Kind>(
 }
 
 // The whole course: the settled trial, or the first refusal.
-pub(crate) fn run<K: Kind>(
-    kind: &K,
-    stores: &mut Stores,
-    stream: &[u8],
-) -> Result<Settled, Stop>
+pub(crate) fn run<K: Kind>(kind: &K, stores: &mut Stores, stream: &[u8]) -> Result<Settled, Stop>
     requires { Enough (held stores.old) }
     ensures course { course K.Kind.letter (K.Kind.meaning kind.now)
         (held stores.old) stream.now ≡ ended result (held stores.new) }

@@ -28,7 +28,7 @@ pub(crate) fn add_rows<'a, K: Kind>(
         ≡ filled (K.Kind.meaning kind.now) result (filling_of sheet.new)
         (held stores.new) }
     ensures orderly { MatchResult result
-        (λ x. Orderly (filling_of sheet.new) (held stores.new) × (x.«record» ≤ 226))
+        (λ x. Orderly (filling_of sheet.new) (held stores.new) × (x.record ≤ 226))
         (λ _. Unit {0}) }
     ensures same { Same stores.old stores.new }
 {

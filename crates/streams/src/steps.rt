@@ -21,9 +21,9 @@ pub(crate) fn take_steps<K: Kind>(
     left: Left,
 ) -> Result<u32, Stop>
     requires whole { Whole (counts trial.old) (held stores.old) }
-    requires few { left.«record» ≤ 226 + (counts trial.old).granted }
+    requires few { left.record ≤ 226 + (counts trial.old).granted }
     ensures course { steps_from (K.Kind.meaning kind.now) (counts trial.old)
-        (held stores.old) left.«record» (records_of left.rest.now)
+        (held stores.old) left.entry.record (records_of left.entry.rest.now)
         ≡ stepped (K.Kind.meaning kind.now) result (counts trial.new)
         (held stores.new) }
     ensures same { Same stores.old stores.new }

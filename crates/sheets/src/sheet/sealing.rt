@@ -13,7 +13,7 @@ use stores::lent::Stores;
 
 impl Sheet {
     // How many rows are still due.
-    fn due(&self) -> u8
+    pub fn due(&self) -> u8
         ensures { result ≡ rows_due (filling_of self.now) }
     {
         (self.labels - self.labels_in)

@@ -1,4 +1,4 @@
-use Rattle.std.proofs.Common.{◌≡◌, ℕ, ◌+◌, ◌-◌, List, sym, ap, ◌∙◌}
+use Rattle.std.proofs.Common.{ℕ, ◌+◌, ◌-◌, List, sym, ap, ◌∙◌}
 use mathlib.Core.Option.{Option}
 use Rattle.calls.specs.Stores.{Held}
 use Rattle.calls.specs.Sheets.{Filling, add_of}
@@ -6,7 +6,7 @@ use Rattle.sheets.specs.View.{filling_of}
 use Rattle.stores.specs.View.{held}
 use Rattle.streams.specs.Cutting.{records_of, first_record}
 use Rattle.streams.specs.Judging.{stopped, rows_from}
-use Rattle.streams.proofs.Courses.{same_on, row_on, row_granted, row_kept, few_rows}
+use Rattle.streams.proofs.CourseLemmas.{same_on, row_on, row_granted, row_kept}
 use Rattle.streams.proofs.rows.add_rows.Goals as goal
 
 pub returns-in-Err : goal.returns-in-Err

@@ -1,20 +1,20 @@
 -- A course one call further: after a row, after a step, and what each keeps.
-use Rattle.std.proofs.Common.{◌≡◌, ℕ, zero, suc, ◌+◌, ◌-◌, ◌<◌, ◌≤◌, List, [], ◌∷◌, length, Ok, Err, Result, sym, refl, ap, ◌∙◌, subst, arith}
+use Rattle.std.proofs.Common.{◌≡◌, ℕ, suc, ◌+◌, ◌-◌, ◌<◌, ◌≤◌, List, [], ◌∷◌, length, Ok, Result, sym, refl, ap, ◌∙◌, subst, arith}
 use mathlib.Core.Option.{Option}
 use Rattle.records.specs.declared.refusal.Refusal.{Refusal}
 use Rattle.stores.specs.declared.lent.Stores.{Stores}
 use Rattle.stores.specs.View.{Same}
 use Rattle.meaning.specs.Mixes.{Trial, Stage, trying, Grants, rule_step, model_step}
 use Rattle.meaning.specs.Mixes as subject
-use Rattle.calls.specs.Stores.{Held}
-use Rattle.calls.specs.Sheets.{Filling, Counts, Added, add_of, rows_due}
+use Rattle.calls.specs.Stores.{Held, Enough}
+use Rattle.calls.specs.Sheets.{Filling, Counts, Added, make_of, add_of, seal_of, rows_due}
 use Rattle.calls.specs.RuleSteps.{Stepped}
 use Rattle.calls.specs.Trials.{step_of}
 use Rattle.calls.specs.Views.{Orderly, Whole, read_trial}
-use Rattle.calls.specs.Exact.{AddExact, StepExact}
+use Rattle.calls.specs.Exact.{MakeExact, AddExact, SealExact, StepExact}
 use Rattle.calls.proofs.Standing.{rows_granted_exactly, steps_granted_exactly}
-use Rattle.streams.specs.Cutting.{first_record, after_first, records_of, due_of, later_of}
-use Rattle.streams.specs.Judging.{Course, stopped, or_stopped, steps_from, rows_from}
+use Rattle.streams.specs.Cutting.{first_record, after_first, records_of, later_of}
+use Rattle.streams.specs.Judging.{Course, or_stopped, steps_from, rows_from, made_from, course}
 use Rattle.streams.proofs.Cuts.{due_cut, later_cut}
 
 -- the same stores, lent twice on
@@ -28,6 +28,28 @@ same_on x y z a b = record {
   representatives = b.representatives ∙ a.representatives;
   tuples_length = b.tuples_length ∙ a.tuples_length;
 }
+
+-- ── make and seal ──────────────────────────────────────────────────────────
+
+-- a course after what make answers to the first record
+pub course_on :
+    (letter : ℕ) (K : ℕ → Option ℕ) (h : Held) (bs : List ℕ) (r : Result Filling Refusal) →
+    r ≡ make_of letter h (first_record bs) →
+    course letter K h bs ≡ made_from K h (records_of (after_first bs)) r
+course_on letter K h bs r e =
+    ap (λ (d : List ℕ). made_from K h (later_of (records_of bs)) (make_of letter h d)) (due_cut bs)
+    ∙ ap (λ (rs : List (List ℕ)). made_from K h rs (make_of letter h (first_record bs))) (later_cut bs)
+    ∙ ap (made_from K h (records_of (after_first bs))) (sym e)
+
+-- a sheet that is made is in order
+pub make_kept :
+    (letter : ℕ) (h : Held) (bs : List ℕ) (f : Filling) → Ok f ≡ make_of letter h bs → Enough h → Orderly f h
+make_kept letter h bs f e b = (subst (MakeExact letter h bs) (sym e) (rows_granted_exactly.0 letter h bs b)).0
+
+-- a trial that is sealed is whole
+pub seal_kept :
+    (K : ℕ → Option ℕ) (f : Filling) (h : Held) (t : Counts) → Ok t ≡ seal_of f h → Orderly f h → Whole t h
+seal_kept K f h t e o = (subst (SealExact K f h) (sym e) (rows_granted_exactly.2 K f h o)).0
 
 -- ── rows ───────────────────────────────────────────────────────────────────
 
