@@ -2,7 +2,7 @@
 use Rattle.std.proofs.Common.{◌≡◌, ℕ, ◌+◌, ◌<◌, Bool, true, false, cond, ◌&&◌, ltb, leb, List, [], ◌∷◌, ◌++◌, map, take, set, Ok, sym, refl, ap, ◌∙◌, subst, arith, ltb-false, ltb-true}
 use mathlib.Core.Option.{Option}
 use borrow.Author.Tests.{both_ways}
-use Rattle.std.specs.List.{AllByRecursion as All}
+use Rattle.std.specs.List.{AllByRecursion}
 use Rattle.std.proofs.lemmas.List.{take_more_set}
 use Rattle.records.specs.declared.rows.Fact.{Fact as FactRow}
 use Rattle.records.specs.declared.rows.TermRow.{TermRow}
@@ -79,7 +79,7 @@ module _ (K : ℕ → Option ℕ) (f : Filling) (h : Held) (o : Orderly f h) (bs
       record {
         rows = o.passed.rows;
         constraints =
-            subst (All (λ (x : FactRow). fact_ok rows (names (read_sheet (plain_in f h))) x ≡ true)) (sym (more w l))
+            subst (AllByRecursion (λ (x : FactRow). fact_ok rows (names (read_sheet (plain_in f h))) x ≡ true)) (sym (more w l))
             (all_push _ (take f.constraints_in h.facts) w o.passed.constraints e);
       }
 

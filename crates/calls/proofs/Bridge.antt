@@ -1,7 +1,7 @@
 -- A step has a plan exactly where a rule of the calculus applies, with the same alternatives (`bridged`).
 use Rattle.std.proofs.Common.{◌≡◌, ℕ, ◌+◌, ◌≤◌, Bool, true, false, cond, ◌&&◌, eqb, List, [], ◌∷◌, ◌++◌, map, Some, None, Ok, Err, Option as Maybe, Result, sym, refl, ap, ◌∙◌, subst, ap₂, arith, eq-eqb, eqb-true}
 use mathlib.Core.Option.{Option, some}
-use Rattle.std.specs.List.{AllByRecursion as All, slice_get}
+use Rattle.std.specs.List.{AllByRecursion, slice_get}
 use Rattle.std.proofs.ByRecursion.{All-append}
 use Rattle.records.specs.declared.rows.Fact.{Fact as FactRow}
 use Rattle.records.specs.declared.rows.Step.{Step}
@@ -48,7 +48,7 @@ module _ (K : ℕ → Option ℕ) (P : Plain) (good : Good P) where
   abbrev cites : RuleName → Step → FactRow → FactRow → Cited
   cites r x f g = cited_by K P.codes P.rows r x f g
 
-  module _ (facts : List FactRow) (n : ℕ) (fit : All (FactFits P n) facts) where
+  module _ (facts : List FactRow) (n : ℕ) (fit : AllByRecursion (FactFits P n) facts) where
     -- the branch, read
     abbrev branch : List Fact
     branch = map (read_fact P.rows) facts
@@ -63,7 +63,7 @@ module _ (K : ℕ → Option ℕ) (P : Plain) (good : Good P) where
 
     -- the facts of each alternative fit
     abbrev Kept : List AltRow → Type 0
-    Kept xs = All (λ (a : AltRow). All (FactFits P (n + a.fresh)) (alt_facts a)) xs
+    Kept xs = AllByRecursion (λ (a : AltRow). AllByRecursion (FactFits P (n + a.fresh)) (alt_facts a)) xs
 
     -- ── a step that applies has a plan ─────────────────────────────────────
 
@@ -110,7 +110,7 @@ module _ (K : ℕ → Option ℕ) (P : Plain) (good : Good P) where
 
     finish :
         (x : Step) (ps : List Fact) (f g : FactRow) (alts : List Alt) → names (read_sheet P) ≤ n →
-        Rule K (read_sheet P) n x.rule x.t x.w ps alts → All (Fitting n) ps →
+        Rule K (read_sheet P) n x.rule x.t x.w ps alts → AllByRecursion (Fitting n) ps →
         (s : Passes K P n x.rule (eqb x.p x.q) ps f g x.t x.w (map write_alt alts)) →
         Looks (uses s.rule).p x.p f → Looks (uses s.rule).q x.q g → Goal x alts
     finish x ps f g alts l rule b s hp hq =
@@ -135,7 +135,7 @@ module _ (K : ℕ → Option ℕ) (P : Plain) (good : Good P) where
             (look_none _ x.q s.q_use eq)
         go ps rule p q ep eq (cites_one {f = f} h) =
             let hp = row_there x.p f (subst (λ (i : ℕ). At branch i f) (sym ep) h) in
-            let b : All (Fitting n) (f ∷ []) = (hp.1, tt) in
+            let b : AllByRecursion (Fitting n) (f ∷ []) = (hp.1, tt) in
             let s =
             complete K P good rule b (eqb x.p x.q)
             (λ e. eq-eqb x.p x.q (ep ∙ sym (eq ∙ ap (λ (i : ℕ). alone i p) e))) in
@@ -146,7 +146,7 @@ module _ (K : ℕ → Option ℕ) (P : Plain) (good : Good P) where
         go ps rule p q ep eq (cites_two {f = f} {g = g} h k) =
             let hp = row_there x.p f (subst (λ (i : ℕ). At branch i f) (sym ep) h) in
             let hq = row_there x.q g (subst (λ (i : ℕ). At branch i g) (sym eq) k) in
-            let b : All (Fitting n) (f ∷ g ∷ []) = (hp.1, (hq.1, tt)) in
+            let b : AllByRecursion (Fitting n) (f ∷ g ∷ []) = (hp.1, (hq.1, tt)) in
             let s = complete K P good rule b (eqb x.p x.q) tt in
             finish x (f ∷ g ∷ []) (write_fact f) (write_fact g) alts l rule b s
             (look_some _ x.p _ s.p_use hp.0)
@@ -274,7 +274,7 @@ module _ (K : ℕ → Option ℕ) (P : Plain) (good : Good P) where
     -- each alternative leaves a branch that fits again
     stays_in :
         names (read_sheet P) ≤ n → (xs : List AltRow) → Kept xs →
-        All (λ (a : AltRow). Fair P (facts ++ alt_facts a) (n + a.fresh)) xs
+        AllByRecursion (λ (a : AltRow). Fair P (facts ++ alt_facts a) (n + a.fresh)) xs
     stays_in l [] h = tt
     stays_in l (a ∷ xs) h =
         let m = n + a.fresh in
@@ -289,7 +289,7 @@ module _ (K : ℕ → Option ℕ) (P : Plain) (good : Good P) where
 
     stays_fair :
         names (read_sheet P) ≤ n → (x : Step) (y : Plan) → plan_of x ≡ Ok y →
-        All (λ (a : AltRow). Fair P (facts ++ alt_facts a) (n + a.fresh)) (alt_rows y.rule y.cited n)
+        AllByRecursion (λ (a : AltRow). Fair P (facts ++ alt_facts a) (n + a.fresh)) (alt_rows y.rule y.cited n)
     stays_fair l x y h =
         let a = applies x y h in
         let m = met l x a.0 a.1 in

@@ -1,7 +1,7 @@
 -- Where a rule of the calculus applies, the tests on plain records pass with its alternatives (`complete`).
 use Rattle.std.proofs.Common.{◌≡◌, ℕ, suc, ◌+◌, ◌-◌, ◌≤◌, Bool, true, false, ◌&&◌, ◌||◌, eqb, List, [], ◌∷◌, ◌++◌, map, length, sym, refl, ap, ◌∙◌, subst, ap₂, ⊎_elim, arith, length-append, lt-ltb, eq-eqb, le-leb}
 use mathlib.Core.Option.{Option}
-use Rattle.std.specs.List.{AllByRecursion as All}
+use Rattle.std.specs.List.{AllByRecursion}
 use Rattle.records.specs.declared.rows.Fact.{Fact as FactRow}
 use Rattle.records.specs.declared.rows.TermRow.{TermRow}
 use Rattle.records.specs.declared.rule.Rule.{Rule as RuleName}
@@ -131,7 +131,7 @@ module _ (K : ℕ → Option ℕ) (P : Plain) (good : Good P) where
   pub complete :
       {n r t w : ℕ} {ps : List Fact} {alts : List Alt} →
       Rule K (read_sheet P) n r t w ps alts →
-      All (Fits K (read_sheet P) (full P good) n) ps →
+      AllByRecursion (Fits K (read_sheet P) (full P good) n) ps →
       (o : Bool) → Twice r ps o →
       Passes K P n r o ps (first_of ps) (second_of r ps) t w (map write_alt alts)
   unfolding cite

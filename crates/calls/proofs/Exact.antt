@@ -1,6 +1,6 @@
 -- A term row, or a constraint, that fits passes its tests (`row_passes`, `fact_passes`).
 use Rattle.std.proofs.Common.{◌≡◌, ℕ, zero, suc, ◌+◌, ◌<◌, ◌≤◌, Bool, true, false, cond, eqb, ltb, leb, List, [], ◌∷◌, length, get_or, sym, refl, ◌∙◌, subst, ap₂, arith, ltb-false, ltb-true, lt-ltb, eq-eqb, le-leb}
-use Rattle.std.specs.List.{AllByRecursion as All}
+use Rattle.std.specs.List.{AllByRecursion}
 use Rattle.records.specs.declared.rows.Fact.{Fact as FactRow}
 use Rattle.records.specs.declared.rows.TermRow.{TermRow}
 use Rattle.rules.specs.Tuples as tuple
@@ -16,14 +16,14 @@ use Rattle.calls.proofs.Tuples.{past}
 use Rattle.calls.proofs.Rows.{arity_of, term_below}
 
 -- an element of a list of numbers below n
-under : (n : ℕ) (u : List ℕ) (i : ℕ) → All (λ e. e < n) u → i < length u → get_or u i 0 < n
+under : (n : ℕ) (u : List ℕ) (i : ℕ) → AllByRecursion (λ e. e < n) u → i < length u → get_or u i 0 < n
 under n [] i h l = absurd (omega arith)
 under n (x ∷ u) zero h l = h.0
 under n (x ∷ u) (suc i) h l = under n u i h.1 (omega arith)
 
 -- place i of a tuple of names below n, of arity k
 place_holds :
-    (n k : ℕ) (u : List ℕ) (i : ℕ) → length u ≡ k → All (λ e. e < n) u → place_ok n k i (get_or u i 0) ≡ true
+    (n k : ℕ) (u : List ℕ) (i : ℕ) → length u ≡ k → AllByRecursion (λ e. e < n) u → place_ok n k i (get_or u i 0) ≡ true
 place_holds n k u i e h = go (ltb i k) refl
   where
     go : (b : Bool) → ltb i k ≡ b → cond b (ltb (get_or u i 0) n) (eqb (get_or u i 0) 0) ≡ true
@@ -31,7 +31,7 @@ place_holds n k u i e h = go (ltb i k) refl
     go false q = let l = ltb-false i k q in eq-eqb (get_or u i 0) 0 (past u i (omega arith))
 
 places_hold :
-    (n k : ℕ) (u : List ℕ) → length u ≡ k → All (λ e. e < n) u → All (λ b. b ≡ true) (places n k (names_of u))
+    (n k : ℕ) (u : List ℕ) → length u ≡ k → AllByRecursion (λ e. e < n) u → AllByRecursion (λ b. b ≡ true) (places n k (names_of u))
 places_hold n k u e h = (
   place_holds n k u 0 e h,
   (
@@ -64,7 +64,7 @@ module _ (P : Plain) where
   alike :
       (n t k s r : ℕ) →
       ((s < t) × Arity (read_sheet P).rows s k) × ((r < t) × Arity (read_sheet P).rows r k) →
-      All (λ b. b ≡ true)
+      AllByRecursion (λ b. b ≡ true)
       (alike_tests t (row_at P.rows s).arity (row_at P.rows r).arity
       (row_of 0 k (tuple.names s r 0 0)))
   alike n t k s r b = (
@@ -78,7 +78,7 @@ module _ (P : Plain) where
   -- the tests of an operation that fits, as written
   op_holds :
       (n t k : ℕ) (o : Op) → OpFits (read_sheet P).rows n t k o →
-      All (λ b. b ≡ true)
+      AllByRecursion (λ b. b ≡ true)
       (row_tests n t (row_at P.rows (write_op k o).a).arity (row_at P.rows (write_op k o).b).arity
       (write_op k o) (write_op k o).op)
   op_holds n t k variable b = (refl, (refl, (refl, (refl, tt))))

@@ -1,7 +1,7 @@
 -- A sheet in order: how many rows are in (`codes_in`, `rows_in`, `constraints_in`), and what passed (`none_passed`).
 use Rattle.std.proofs.Common.{◌≡◌, ℕ, zero, suc, ◌+◌, ◌<◌, ◌≤◌, true, List, [], length, take, sym, refl, ap, ◌∙◌, subst, arith, length-take}
 use lib.ListN.{length-map}
-use Rattle.std.specs.List.{AllByRecursion as All}
+use Rattle.std.specs.List.{AllByRecursion}
 use Rattle.records.specs.declared.rows.Fact.{Fact as FactRow}
 use Rattle.meaning.specs.Terms.{names}
 use Rattle.calls.specs.Reading.{Plain, read_sheet, read_row, read_fact}
@@ -32,7 +32,7 @@ none_passed P er ec =
           let z : length P.rows ≡ 0 = ap length er in
           omega arith);
       constraints =
-          subst (All (λ (f : FactRow). fact_ok P.rows (names (read_sheet P)) f ≡ true)) (sym ec) tt;
+          subst (AllByRecursion (λ (f : FactRow). fact_ok P.rows (names (read_sheet P)) f ≡ true)) (sym ec) tt;
     }
 
 module _ (f : Filling) (h : Held) (o : Orderly f h) where

@@ -1,6 +1,6 @@
 -- The room tests of a step speak of all its alternatives (`room_told`).
 use Rattle.std.proofs.Common.{◌≡◌, ℕ, ◌+◌, ◌≤◌, Bool, true, false, cond, ◌||◌, eqb, ltb, ◌↔◌, List, [], ◌∷◌, length, sym, refl, subst, arith, ltb-false, le-ltb}
-use Rattle.std.specs.List.{AllByRecursion as All}
+use Rattle.std.specs.List.{AllByRecursion}
 use Rattle.records.specs.declared.rule.Rule.{Rule as RuleName}
 use Rattle.records.specs.declared.rule.Rule.TheVariants as R
 use Rattle.rules.specs.declared.cited.Cited.{Cited}
@@ -35,24 +35,24 @@ module _ (count : AltRow → ℕ) (l : ℕ) where
   abbrev Told : RuleName → Cited → ℕ → Type 0
   Told r c n =
       (Over (alternative_of r c n 0) (alternative_of r c n 1) (alternative_of r c n 2) ≡ false)
-      ↔ All (λ (a : AltRow). count a ≤ l) (alt_rows r c n)
+      ↔ AllByRecursion (λ (a : AltRow). count a ≤ l) (alt_rows r c n)
 
   none_told : count no_alt ≤ l → (Over no_alt no_alt no_alt ≡ false) ↔ Unit {0}
   none_told h = (λ e. tt, λ u. over l (count no_alt) (count no_alt) (count no_alt) h h h)
 
-  one_told : (a : AltRow) → (Over a a a ≡ false) ↔ All (λ (x : AltRow). count x ≤ l) (a ∷ [])
+  one_told : (a : AltRow) → (Over a a a ≡ false) ↔ AllByRecursion (λ (x : AltRow). count x ≤ l) (a ∷ [])
   one_told a = (
     λ e. ((within l (count a) (count a) (count a) e).0, tt),
     λ h. over l (count a) (count a) (count a) h.0 h.0 h.0,
   )
 
-  two_told : (a b : AltRow) → (Over a b b ≡ false) ↔ All (λ (x : AltRow). count x ≤ l) (a ∷ b ∷ [])
+  two_told : (a b : AltRow) → (Over a b b ≡ false) ↔ AllByRecursion (λ (x : AltRow). count x ≤ l) (a ∷ b ∷ [])
   two_told a b = (
     λ e. (let h = within l (count a) (count b) (count b) e in (h.0, (h.1, tt))),
     λ h. over l (count a) (count b) (count b) h.0 h.1.0 h.1.0,
   )
 
-  three_told : (a b c : AltRow) → (Over a b c ≡ false) ↔ All (λ (x : AltRow). count x ≤ l) (a ∷ b ∷ c ∷ [])
+  three_told : (a b c : AltRow) → (Over a b c ≡ false) ↔ AllByRecursion (λ (x : AltRow). count x ≤ l) (a ∷ b ∷ c ∷ [])
   three_told a b c = (
     λ e. (let h = within l (count a) (count b) (count c) e in (h.0, (h.1, (h.2, tt)))),
     λ h. over l (count a) (count b) (count c) h.0 h.1.0 h.1.1.0,
@@ -108,18 +108,18 @@ sized a = go (eqb a.count 0) (eqb a.count 1) (eqb a.count 2) (eqb a.count 3)
 -- what is said of sizes, said of facts
 resized :
     (m l : ℕ) (xs : List AltRow) →
-    All (λ (a : AltRow). m + size_of a ≤ l) xs ↔ All (λ (a : AltRow). m + length (alt_facts a) ≤ l) xs
+    AllByRecursion (λ (a : AltRow). m + size_of a ≤ l) xs ↔ AllByRecursion (λ (a : AltRow). m + length (alt_facts a) ≤ l) xs
 resized m l xs = (to xs, from xs)
   where
     to :
-        (xs : List AltRow) → All (λ (a : AltRow). m + size_of a ≤ l) xs →
-        All (λ (a : AltRow). m + length (alt_facts a) ≤ l) xs
+        (xs : List AltRow) → AllByRecursion (λ (a : AltRow). m + size_of a ≤ l) xs →
+        AllByRecursion (λ (a : AltRow). m + length (alt_facts a) ≤ l) xs
     to [] h = tt
     to (a ∷ xs) h = (subst (λ (k : ℕ). m + k ≤ l) (sized a) h.0, to xs h.1)
 
     from :
-        (xs : List AltRow) → All (λ (a : AltRow). m + length (alt_facts a) ≤ l) xs →
-        All (λ (a : AltRow). m + size_of a ≤ l) xs
+        (xs : List AltRow) → AllByRecursion (λ (a : AltRow). m + length (alt_facts a) ≤ l) xs →
+        AllByRecursion (λ (a : AltRow). m + size_of a ≤ l) xs
     from [] h = tt
     from (a ∷ xs) h = (subst (λ (k : ℕ). m + k ≤ l) (sym (sized a)) h.0, from xs h.1)
 

@@ -1,7 +1,7 @@
 -- Forks are read the same, and fit the same, over facts with the front that they were made on (`forks_same`,
 -- `stack_moved`); the latest fork of a stack fits, over a stack of the others (`top`).
 use Rattle.std.proofs.Common.{◌≡◌, ℕ, zero, suc, ◌+◌, ◌-◌, ◌<◌, ◌≤◌, List, [], ◌∷◌, ◌++◌, map, length, take, Option as Maybe, sym, refl, ap, ◌∙◌, subst, ap₂, arith}
-use Rattle.std.specs.List.{AllByRecursion as All}
+use Rattle.std.specs.List.{AllByRecursion}
 use Rattle.records.specs.declared.rows.Fact.{Fact as FactRow}
 use Rattle.rules.specs.declared.cited.Alt.{Alt as AltRow}
 use Rattle.rules.specs.declared.outcome.Fork.{Fork as ForkRow}
@@ -22,7 +22,7 @@ map_same f g e (i ∷ l) = ap₂ ◌∷◌ (e i) (map_same f g e l)
 
 -- what holds of all the numbered holds of each
 pub all_from :
-    {X : Type 0} (Q : X → Type 0) (g : ℕ → X) (i c j : ℕ) → All Q (map g (up_from i c)) → j < c → Q (g (i + j))
+    {X : Type 0} (Q : X → Type 0) (g : ℕ → X) (i c j : ℕ) → AllByRecursion Q (map g (up_from i c)) → j < c → Q (g (i + j))
 all_from Q g i zero j h l = absurd (omega arith)
 all_from Q g i (suc c) zero h l = let e : i ≡ i + 0 = omega arith in subst (λ (k : ℕ). Q (g k)) e h.0
 all_from Q g i (suc c) (suc j) h l =
@@ -31,7 +31,7 @@ all_from Q g i (suc c) (suc j) h l =
 
 -- from 0 on
 pub all_at_number :
-    {X : Type 0} (Q : X → Type 0) (g : ℕ → X) (c j : ℕ) → All Q (map g (up_from 0 c)) → j < c → Q (g j)
+    {X : Type 0} (Q : X → Type 0) (g : ℕ → X) (c j : ℕ) → AllByRecursion Q (map g (up_from 0 c)) → j < c → Q (g j)
 all_at_number Q g c j h l =
     let e : 0 + j ≡ j = omega arith in subst (λ (k : ℕ). Q (g k)) e (all_from Q g 0 c j h l)
 
@@ -99,22 +99,22 @@ module _ (P : Plain) where
           left = h.left;
           names_fit =
               subst
-              (λ (z : Maybe FactRow). All (λ (a : AltRow). f.names + a.fresh ≤ 64)
+              (λ (z : Maybe FactRow). AllByRecursion (λ (a : AltRow). f.names + a.fresh ≤ 64)
               (alt_rows f.rule (cited_again P.rows (or_none z) f.t) f.names))
               ep h.names_fit;
           facts_fit =
               subst
-              (λ (z : Maybe FactRow). All (λ (a : AltRow). f.facts + length (alt_facts a) ≤ 1024)
+              (λ (z : Maybe FactRow). AllByRecursion (λ (a : AltRow). f.facts + length (alt_facts a) ≤ 1024)
               (alt_rows f.rule (cited_again P.rows (or_none z) f.t) f.names))
               ep h.facts_fit;
           fair =
               subst
-              (λ (z : List FactRow). All (λ (a : AltRow). Fair P (z ++ alt_facts a) (f.names + a.fresh))
+              (λ (z : List FactRow). AllByRecursion (λ (a : AltRow). Fair P (z ++ alt_facts a) (f.names + a.fresh))
               (alt_rows f.rule (cited_at P ds f) f.names))
               en
               (subst
               (λ (z : Maybe FactRow).
-              All (λ (a : AltRow). Fair P (take f.facts cs ++ alt_facts a) (f.names + a.fresh))
+              AllByRecursion (λ (a : AltRow). Fair P (take f.facts cs ++ alt_facts a) (f.names + a.fresh))
               (alt_rows f.rule (cited_again P.rows (or_none z) f.t) f.names))
               ep h.fair);
         }

@@ -1,6 +1,6 @@
 -- Rows are granted exactly where they fit, and a sheet whose rows passed as they came is fair (`granted`).
 use Rattle.std.proofs.Common.{◌≡◌, ℕ, ◌<◌, List, [], ◌∷◌, map, length, take, drop, sym, ap, ◌∙◌, arith, take-append-drop, length-take}
-use Rattle.std.specs.List.{AllByRecursion as All}
+use Rattle.std.specs.List.{AllByRecursion}
 use Rattle.records.specs.declared.rows.Fact.{Fact as FactRow}
 use Rattle.records.specs.declared.rows.TermRow.{TermRow}
 use Rattle.meaning.specs.Terms.{Fact, names, FormFits}
@@ -22,14 +22,14 @@ as_it_came rows n t r l =
     ∙ row_stays (take t rows) (drop t rows) n t r (omega (arith, length-take t rows))
 
 -- what holds of each element is carried over
-all_to : {X : Type 0} (Q R : X → Type 0) → ((x : X) → Q x → R x) → (l : List X) → All Q l → All R l
+all_to : {X : Type 0} (Q R : X → Type 0) → ((x : X) → Q x → R x) → (l : List X) → AllByRecursion Q l → AllByRecursion R l
 all_to Q R f [] h = tt
 all_to Q R f (x ∷ l) h = (f x h.0, all_to Q R f l h.1)
 
 -- the constraints read fit where the rows do
 forms_fit :
-    (P : Plain) (n : ℕ) (fs : List FactRow) → All (FactFits P n) fs →
-    All (λ (c : Fact). FormFits (read_sheet P).rows n c.form) (map (read_fact P.rows) fs)
+    (P : Plain) (n : ℕ) (fs : List FactRow) → AllByRecursion (FactFits P n) fs →
+    AllByRecursion (λ (c : Fact). FormFits (read_sheet P).rows n c.form) (map (read_fact P.rows) fs)
 forms_fit P n [] h = tt
 forms_fit P n (f ∷ fs) h = (h.0.fits, forms_fit P n fs h.1)
 

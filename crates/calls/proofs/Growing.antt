@@ -2,7 +2,7 @@
 -- of several the first, with a fork for the others (`grows`).
 use Rattle.std.proofs.Common.{◌≡◌, ℕ, zero, suc, ◌+◌, ◌<◌, ◌≤◌, Bool, true, false, cond, eqb, ltb, List, ◌++◌, length, set, Some, Ok, Err, Result, sym, refl, ap, ◌∙◌, subst, arith, length-set, ltb-false, ltb-true, eqb-true}
 use mathlib.Core.Option.{Option}
-use Rattle.std.specs.List.{AllByRecursion as All, slice_get}
+use Rattle.std.specs.List.{AllByRecursion, slice_get}
 use Rattle.std.proofs.lemmas.List.{take_more_set}
 use Rattle.records.specs.declared.rows.Step.{Step}
 use Rattle.records.specs.declared.refusal.Refusal.{Refusal}
@@ -54,12 +54,12 @@ module _
   a = alternative_of y.rule y.cited t.names 0
 
   abbrev Names : Type 0
-  Names = All (λ (z : AltRow). t.names + z.fresh ≤ 64) rows
+  Names = AllByRecursion (λ (z : AltRow). t.names + z.fresh ≤ 64) rows
 
   abbrev Facts : Type 0
-  Facts = All (λ (z : AltRow). t.facts + length (alt_facts z) ≤ 1024) rows
+  Facts = AllByRecursion (λ (z : AltRow). t.facts + length (alt_facts z) ≤ 1024) rows
 
-  first_has : (Q : AltRow → Type 0) → All Q rows → Q a
+  first_has : (Q : AltRow → Type 0) → AllByRecursion Q rows → Q a
   first_has Q all =
       all_at_number Q (alternative_of y.rule y.cited t.names) (alternatives_of y.rule) 0 all
       (some_left (alternatives_of y.rule) z₀)
@@ -72,7 +72,7 @@ module _
       let l = first_has (λ (z : AltRow). t.facts + length (alt_facts z) ≤ 1024) all in
       let e = sized a in omega arith
 
-  all_fair : All (λ (z : AltRow). Fair (plain_of t h) (branch_facts t h ++ alt_facts z) (t.names + z.fresh)) rows
+  all_fair : AllByRecursion (λ (z : AltRow). Fair (plain_of t h) (branch_facts t h ++ alt_facts z) (t.names + z.fresh)) rows
   all_fair = bridged.3 K (plain_of t h) (branch_facts t h) t.names (live t h w un room).fair x y ep
 
   first_fair : Fair (plain_of t h) (branch_facts t h ++ alt_facts a) (t.names + a.fresh)
@@ -85,7 +85,7 @@ module _
   with_room : Names → Facts → (2 ≤ alternatives_of y.rule → t.forks < 64) → HasRoom
   with_room names facts forks =
       has_room (plain_of t h) (branch_facts t h) t.names (forks_of t h) y.rule y.cited names
-      (subst (λ (k : ℕ). All (λ (z : AltRow). k + length (alt_facts z) ≤ 1024) rows)
+      (subst (λ (k : ℕ). AllByRecursion (λ (z : AltRow). k + length (alt_facts z) ≤ 1024) rows)
       (sym (facts_long t h w un room)) facts)
       (λ l. subst (λ (k : ℕ). k < 64) (sym (forks_long t h w un room)) (forks l))
 
@@ -181,7 +181,7 @@ module _
       clash
       (sym
       ((room_told.1 y.rule y.cited t.names t.facts w.few_facts).1
-      (subst (λ (k : ℕ). All (λ (z : AltRow). k + length (alt_facts z) ≤ 1024) rows) (facts_long t h w un room)
+      (subst (λ (k : ℕ). AllByRecursion (λ (z : AltRow). k + length (alt_facts z) ≤ 1024) rows) (facts_long t h w un room)
       (room_facts (plain_of t h) (branch_facts t h) t.names (forks_of t h) y.rule y.cited has)))
       ∙ e))
   at_facts false e names =

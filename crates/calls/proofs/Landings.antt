@@ -1,7 +1,7 @@
 -- The facts and forks that a rule leaves, as lists, read as the state that its alternatives bring, and fit
 -- again: one alternative (`adds_land`), several (`forks_land`), a fork resumed (`resume_lands`).
 use Rattle.std.proofs.Common.{◌≡◌, ℕ, suc, ◌+◌, ◌-◌, ◌<◌, ◌≤◌, Bool, true, false, cond, ltb, List, [], ◌∷◌, ◌++◌, map, length, take, Some, Option as Maybe, sym, refl, ap, ◌∙◌, subst, arith, length-take, ltb-false, ltb-true, lt-ltb}
-use Rattle.std.specs.List.{AllByRecursion as All, slice_get}
+use Rattle.std.specs.List.{AllByRecursion, slice_get}
 use Rattle.std.proofs.lemmas.List.{map-append, take_all, take-take, take-append-le}
 use Rattle.records.specs.declared.rows.Fact.{Fact as FactRow}
 use Rattle.records.specs.declared.rule.Rule.{Rule as RuleName}
@@ -98,9 +98,9 @@ module _
 
     -- what holds of the alternatives holds of them as made again
     all_again :
-        (Q : AltRow → Type 0) → All Q (alt_rows r q n) →
-        All Q (alt_rows r (cited_at P (F ++ facts_of a) (new_fork m n r p t)) n)
-    all_again Q h = subst (λ (z : List AltRow). All Q z) rows_again h
+        (Q : AltRow → Type 0) → AllByRecursion Q (alt_rows r q n) →
+        AllByRecursion Q (alt_rows r (cited_at P (F ++ facts_of a) (new_fork m n r p t)) n)
+    all_again Q h = subst (λ (z : List AltRow). AllByRecursion Q z) rows_again h
 
     front_is : take m (F ++ facts_of a) ≡ F
     front_is = sym (front_stays a) ∙ take_all m F (omega arith)
@@ -140,9 +140,9 @@ module _
 
     pub forks_land :
         n ≤ 64 → m + size_of a ≤ 1024 → n + a.fresh ≤ 64 →
-        All (λ (z : AltRow). n + z.fresh ≤ 64) (alt_rows r q n) →
-        All (λ (z : AltRow). m + length (alt_facts z) ≤ 1024) (alt_rows r q n) →
-        All (λ (z : AltRow). Fair P (F ++ alt_facts z) (n + z.fresh)) (alt_rows r q n) →
+        AllByRecursion (λ (z : AltRow). n + z.fresh ≤ 64) (alt_rows r q n) →
+        AllByRecursion (λ (z : AltRow). m + length (alt_facts z) ≤ 1024) (alt_rows r q n) →
+        AllByRecursion (λ (z : AltRow). Fair P (F ++ alt_facts z) (n + z.fresh)) (alt_rows r q n) →
         Fair P (F ++ facts_of a) (n + a.fresh) →
         Lands P c (apply (read_branch P F n) (map (read_alt P.rows) (alt_rows r q n)) (read_forks P F G []))
         (m + size_of a) (n + a.fresh) (F ++ facts_of a) (G ++ (new_fork m n r p t ∷ []))
@@ -165,7 +165,7 @@ module _
             fair =
                 all_again (λ (z : AltRow). Fair P (take m (F ++ facts_of a) ++ alt_facts z) (n + z.fresh))
                 (subst
-                (λ (y : List FactRow). All (λ (z : AltRow). Fair P (y ++ alt_facts z) (n + z.fresh)) (alt_rows r q n))
+                (λ (y : List FactRow). AllByRecursion (λ (z : AltRow). Fair P (y ++ alt_facts z) (n + z.fresh)) (alt_rows r q n))
                 (sym front_is) all_fair);
           });
       few_facts = lm;
@@ -182,7 +182,7 @@ module _
   next_of = alternative_of f.rule (cited_at P F f) f.names f.next
 
   -- what holds of the fork's alternatives holds of the next
-  next_has : (Q : AltRow → Type 0) → All Q (alt_rows f.rule (cited_at P F f) f.names) → Q next_of
+  next_has : (Q : AltRow → Type 0) → AllByRecursion Q (alt_rows f.rule (cited_at P F f) f.names) → Q next_of
   next_has Q h =
       all_at_number Q (alternative_of f.rule (cited_at P F f) f.names) (alternatives_of f.rule) f.next h
       fit.left

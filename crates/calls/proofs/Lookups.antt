@@ -2,7 +2,7 @@
 use Rattle.std.proofs.Common.{◌≡◌, ℕ, zero, suc, ◌<◌, List, [], ◌∷◌, ◌++◌, map, length, get_or, Some, refl, ap, subst, arith}
 use mathlib.Core.Option.{some, some-injective}
 use lib.ListN.{get_elem?}
-use Rattle.std.specs.List.{AllByRecursion as All, slice_get}
+use Rattle.std.specs.List.{AllByRecursion, slice_get}
 
 -- an entry of a mapped list comes from an entry
 pub unmap :
@@ -56,7 +56,7 @@ ahead (y ∷ l) more (suc i) x e = ahead l more i x e
 
 -- what holds of all entries holds of one that is there
 pub all_at :
-    {X : Type 0} (Q : X → Type 0) (l : List X) (i : ℕ) (x : X) → All Q l → get_elem? l i ≡ some x → Q x
+    {X : Type 0} (Q : X → Type 0) (l : List X) (i : ℕ) (x : X) → AllByRecursion Q l → get_elem? l i ≡ some x → Q x
 all_at Q [] i x h e = absurd (let z : ◌≡◌ {A = ℕ} 0 1 = cc in omega arith)
 all_at Q (y ∷ l) zero x h e = subst Q (some-injective _ _ e) h.0
 all_at Q (y ∷ l) (suc i) x h e = all_at Q l i x h.1 e

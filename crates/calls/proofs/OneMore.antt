@@ -2,7 +2,7 @@
 use Rattle.std.proofs.Common.{◌≡◌, ℕ, zero, suc, ◌⊎◌, List, [], ◌∷◌, ◌++◌, map, length, take, refl, ap, inl, inr, arith}
 use mathlib.Core.Option.{some, some-injective}
 use lib.ListN.{get_elem?}
-use Rattle.std.specs.List.{AllByRecursion as All}
+use Rattle.std.specs.List.{AllByRecursion}
 
 -- a mapped list with one element more
 pub map_push :
@@ -11,7 +11,7 @@ map_push f [] x = refl
 map_push f (y ∷ l) x = ap (λ (z : List _). f y ∷ z) (map_push f l x)
 
 -- what holds of all elements and of one more
-pub all_push : {X : Type 0} (Q : X → Type 0) (l : List X) (x : X) → All Q l → Q x → All Q (l ++ (x ∷ []))
+pub all_push : {X : Type 0} (Q : X → Type 0) (l : List X) (x : X) → AllByRecursion Q l → Q x → AllByRecursion Q (l ++ (x ∷ []))
 all_push Q [] x h q = (q, tt)
 all_push Q (y ∷ l) x h q = (h.0, all_push Q l x h.1 q)
 

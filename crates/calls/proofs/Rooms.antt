@@ -2,7 +2,7 @@
 -- `room_facts`, `room_forks`).
 use Rattle.std.proofs.Common.{◌≡◌, ℕ, ◌+◌, ◌<◌, ◌≤◌, List, [], ◌∷◌, map, length, sym, ◌∙◌, subst, ap₂, arith, length-append}
 use lib.ListN.{length-map}
-use Rattle.std.specs.List.{AllByRecursion as All}
+use Rattle.std.specs.List.{AllByRecursion}
 use Rattle.records.specs.declared.rows.Fact.{Fact as FactRow}
 use Rattle.records.specs.declared.rule.Rule.{Rule as RuleName}
 use Rattle.rules.specs.declared.cited.Cited.{Cited}
@@ -20,13 +20,13 @@ use Rattle.calls.proofs.Forks.{forks_count, count_from}
 -- what holds of each element, said of the elements mapped, and back
 all_map :
     {X Y : Type 0} (Q : X → Type 0) (R : Y → Type 0) (f : X → Y) → ((x : X) → Q x → R (f x)) → (l : List X) →
-    All Q l → All R (map f l)
+    AllByRecursion Q l → AllByRecursion R (map f l)
 all_map Q R f g [] h = tt
 all_map Q R f g (x ∷ l) h = (g x h.0, all_map Q R f g l h.1)
 
 all_unmap :
     {X Y : Type 0} (Q : X → Type 0) (R : Y → Type 0) (f : X → Y) → ((x : X) → R (f x) → Q x) → (l : List X) →
-    All R (map f l) → All Q l
+    AllByRecursion R (map f l) → AllByRecursion Q l
 all_unmap Q R f g [] h = tt
 all_unmap Q R f g (x ∷ l) h = (g x h.0, all_unmap Q R f g l h.1)
 
@@ -52,8 +52,8 @@ module _ (P : Plain) (F : List FactRow) (n : ℕ) (G : List ForkRow) (r : RuleNa
   length-read_forks = let e = forks_count P F G [] in omega arith
 
   pub has_room :
-      All (λ (a : AltRow). n + a.fresh ≤ 64) (alt_rows r q n) →
-      All (λ (a : AltRow). length F + length (alt_facts a) ≤ 1024) (alt_rows r q n) →
+      AllByRecursion (λ (a : AltRow). n + a.fresh ≤ 64) (alt_rows r q n) →
+      AllByRecursion (λ (a : AltRow). length F + length (alt_facts a) ≤ 1024) (alt_rows r q n) →
       (2 ≤ alternatives_of r → length G < 64) → Room (read_branch P F n) (read_forks P F G []) alts
   has_room names facts forks = record {
     names_fit =
@@ -69,7 +69,7 @@ module _ (P : Plain) (F : List FactRow) (n : ℕ) (G : List ForkRow) (r : RuleNa
   }
 
   pub room_names :
-      Room (read_branch P F n) (read_forks P F G []) alts → All (λ (a : AltRow). n + a.fresh ≤ 64) (alt_rows r q n)
+      Room (read_branch P F n) (read_forks P F G []) alts → AllByRecursion (λ (a : AltRow). n + a.fresh ≤ 64) (alt_rows r q n)
   room_names h =
       all_unmap (λ (a : AltRow). n + a.fresh ≤ 64)
       (λ (a : Alt). (extend (read_branch P F n) a).count ≤ most_names) (read_alt P.rows) (λ a l. l) (alt_rows r q n)
@@ -77,7 +77,7 @@ module _ (P : Plain) (F : List FactRow) (n : ℕ) (G : List ForkRow) (r : RuleNa
 
   pub room_facts :
       Room (read_branch P F n) (read_forks P F G []) alts →
-      All (λ (a : AltRow). length F + length (alt_facts a) ≤ 1024) (alt_rows r q n)
+      AllByRecursion (λ (a : AltRow). length F + length (alt_facts a) ≤ 1024) (alt_rows r q n)
   room_facts h =
       all_unmap (λ (a : AltRow). length F + length (alt_facts a) ≤ 1024)
       (λ (a : Alt). length (extend (read_branch P F n) a).facts ≤ most_facts) (read_alt P.rows)

@@ -4,7 +4,7 @@ use Rattle.std.proofs.Common.{◌≡◌, ℕ, zero, suc, ◌+◌, ◌<◌, Bool,
 use mathlib.Core.Option.{none, some, some-injective}
 use native.Mathlib.Decide.{ℕ_discrete}
 use lib.ListN.{get_elem?}
-use Rattle.std.specs.List.{AllByRecursion as All}
+use Rattle.std.specs.List.{AllByRecursion}
 use Rattle.meaning.specs.Terms.{Fact, Sheet}
 use Rattle.meaning.specs.Meaning.{Interp, SatFact, Satisfies}
 use Rattle.calls.specs.Models.{is_yes, sat_dec, is_true, first_false}
@@ -41,17 +41,17 @@ module _ (S : Sheet) (I : Interp ℕ) where
   pub is_false_of : (c : Fact) → ¬ (SatFact S.rows I I.name c) → is_true S I c ≡ false
   is_false_of c n = is_no_of (sat_dec ℕ_discrete I S.rows I.name c.sign c.form) n
 
-  all_true : (cs : List Fact) (k : ℕ) → first_false S I cs k ≡ none → All (SatFact S.rows I I.name) cs
+  all_true : (cs : List Fact) (k : ℕ) → first_false S I cs k ≡ none → AllByRecursion (SatFact S.rows I I.name) cs
   all_true [] k h = tt
   all_true (c ∷ cs) k h = go (all_true cs (k + 1)) (is_true S I c) refl h
     where
-      go : (first_false S I cs (k + 1) ≡ none → All (SatFact S.rows I I.name) cs) →
+      go : (first_false S I cs (k + 1) ≡ none → AllByRecursion (SatFact S.rows I I.name) cs) →
           (b : Bool) → is_true S I c ≡ b → cond b (first_false S I cs (k + 1)) (some k) ≡ none →
-          SatFact S.rows I I.name c × All (SatFact S.rows I I.name) cs
+          SatFact S.rows I I.name c × AllByRecursion (SatFact S.rows I I.name) cs
       go ih true e h = (true_is c e, ih h)
       go ih false e h = no_clash h
 
-  none_false : (cs : List Fact) (k : ℕ) → All (SatFact S.rows I I.name) cs →
+  none_false : (cs : List Fact) (k : ℕ) → AllByRecursion (SatFact S.rows I I.name) cs →
       first_false S I cs k ≡ none
   none_false [] k h = refl
   none_false (c ∷ cs) k h =
@@ -61,7 +61,7 @@ module _ (S : Sheet) (I : Interp ℕ) where
   -- all hold, where each holds at its place
   pub all_by_place : (cs : List Fact) →
       ((i : ℕ) (c : Fact) → get_elem? cs i ≡ some c → SatFact S.rows I I.name c) →
-      All (SatFact S.rows I I.name) cs
+      AllByRecursion (SatFact S.rows I I.name) cs
   all_by_place [] h = tt
   all_by_place (c ∷ cs) h = (h 0 c refl, all_by_place cs (λ i x q. h (suc i) x q))
 

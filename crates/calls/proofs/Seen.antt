@@ -1,7 +1,7 @@
 -- What it is for a rule to be seen by its tests (`Seen`), and facts as the rules cite them.
 use Rattle.std.proofs.Common.{◌≡◌, ℕ, Bool, true, cond, List, length, sym, ◌∙◌, subst}
 use mathlib.Core.Option.{Option}
-use Rattle.std.specs.List.{AllByRecursion as All}
+use Rattle.std.specs.List.{AllByRecursion}
 use Rattle.records.specs.declared.rows.Fact.{Fact as FactRow}
 use Rattle.records.specs.declared.rule.Rule.{Rule as RuleName}
 use Rattle.rules.specs.Facts.{is_in}
@@ -20,7 +20,7 @@ Seen K P r =
     (n : ℕ) (o : Bool) (f g : FactRow) (t w : ℕ) →
     ((uses r).p ≡ true → FactFits P n f) →
     ((uses r).q ≡ true → FactFits P n g) →
-    All (λ b. b ≡ true) (tests_of r (cited_with K P.codes P.rows r o f g t w)) →
+    AllByRecursion (λ b. b ≡ true) (tests_of r (cited_with K P.codes P.rows r o f g t w)) →
     Found K P n r o f g (cond (uses r).t t 0) (cond (uses r).w w 0)
 
 -- a rule, with where its cited facts come from

@@ -1,6 +1,6 @@
 -- A term row, or a constraint, that passes its tests fits (`row_fits`, `fact_fits`).
 use Rattle.std.proofs.Common.{◌≡◌, ℕ, zero, suc, ◌+◌, ◌-◌, ◌<◌, ◌≤◌, Bool, true, false, cond, eqb, ltb, leb, List, [], ◌∷◌, length, take, sym, refl, ap, ◌∙◌, subst, arith, ltb-true, ne_eqb, eqb-true, leb-true}
-use Rattle.std.specs.List.{AllByRecursion as All}
+use Rattle.std.specs.List.{AllByRecursion}
 use Rattle.records.specs.declared.rows.Fact.{Fact as FactRow}
 use Rattle.records.specs.declared.rows.TermRow.{TermRow}
 use Rattle.rules.specs.Tuples as tuple
@@ -18,10 +18,10 @@ use Rattle.calls.proofs.Rows.{arity_there}
 
 -- a tuple of arity k in four fields, the others zero
 tuple_back :
-    (k a b c d n : ℕ) → 1 ≤ k → k ≤ 4 → All (λ z. z ≡ true) (places n k (tuple.names a b c d)) →
+    (k a b c d n : ℕ) → 1 ≤ k → k ≤ 4 → AllByRecursion (λ z. z ≡ true) (places n k (tuple.names a b c d)) →
     (names_of (take k (four a b c d)) ≡ tuple.names a b c d)
     × (length (take k (four a b c d)) ≡ k)
-    × All (λ e. e < n) (take k (four a b c d))
+    × AllByRecursion (λ e. e < n) (take k (four a b c d))
 tuple_back zero a b c d n l h p = absurd (omega arith)
 tuple_back (suc zero) a b c d n l h p =
     let eb = sym (eqb-true b 0 p.1.0) in
@@ -76,7 +76,7 @@ module _ (P : Plain) where
 
   -- the tests of row t by an operation's number
   abbrev Tests : ℕ → TermRow → ℕ → Type 0
-  Tests t r k = All (λ b. b ≡ true) (row_tests (names (read_sheet P)) t (arity r.a) (arity r.b) r k)
+  Tests t r k = AllByRecursion (λ b. b ≡ true) (row_tests (names (read_sheet P)) t (arity r.a) (arity r.b) r k)
 
   module _ (t : ℕ) (r : TermRow) (lt : t ≤ length P.rows) (low : 1 ≤ r.arity) (high : r.arity ≤ 4) where
     -- the row's four bytes as a list
@@ -196,7 +196,7 @@ module _ (P : Plain) where
     by_op (suc (suc (suc (suc (suc (suc (suc (suc (suc (suc k)))))))))) ek h =
         let o = suc (suc (suc (suc (suc (suc (suc (suc (suc (suc k))))))))) in
         let e = past_nine (names (read_sheet P)) t (arity r.a) (arity r.b) r o (omega arith) in
-        clash (subst (All (λ b. b ≡ true)) e h).0
+        clash (subst (AllByRecursion (λ b. b ≡ true)) e h).0
 
   -- a term row that passes its tests fits
   pub row_fits :

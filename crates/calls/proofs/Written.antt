@@ -1,7 +1,7 @@
 -- Alternatives that fit are read back as they were written, and fit then too (`alts_back`, `alts_kept`).
 use Rattle.std.proofs.Common.{◌≡◌, ℕ, ◌+◌, ◌≤◌, Bool, List, [], ◌∷◌, map, length, get_or, take, sym, refl, ap, ◌∙◌, subst, ap₂, arith}
 use mathlib.Core.Option.{Option}
-use Rattle.std.specs.List.{AllByRecursion as All}
+use Rattle.std.specs.List.{AllByRecursion}
 use Rattle.records.specs.declared.rows.Fact.{Fact as FactRow}
 use Rattle.rules.specs.declared.cited.Alt.{Alt as AltRow}
 use Rattle.meaning.specs.Terms.{Form, member, equal, same, Fact, signed, FormFits}
@@ -36,11 +36,11 @@ few_equalities (x ∷ u) (y ∷ v) = let h = few_equalities u v in omega arith
 module _ (K : ℕ → Option ℕ) (P : Plain) (good : Good P) where
   -- the forms of these facts fit
   abbrev FormsFit : ℕ → List Fact → Type 0
-  FormsFit m fs = All (λ (f : Fact). FormFits (read_sheet P).rows m f.form) fs
+  FormsFit m fs = AllByRecursion (λ (f : Fact). FormFits (read_sheet P).rows m f.form) fs
 
   -- no alternative has more than four facts
   abbrev Few : List Alt → Type 0
-  Few alts = All (λ (a : Alt). length a.facts ≤ 4) alts
+  Few alts = AllByRecursion (λ (a : Alt). length a.facts ≤ 4) alts
 
   -- an alternative of these facts, written
   abbrev row_of_facts : List Fact → AltRow
@@ -88,7 +88,7 @@ module _ (K : ℕ → Option ℕ) (P : Plain) (good : Good P) where
 
   pub few :
       {n r t w : ℕ} {ps : List Fact} {alts : List Alt} → Rule K (read_sheet P) n r t w ps alts →
-      All (Fits K (read_sheet P) (full P good) n) ps → Few alts
+      AllByRecursion (Fits K (read_sheet P) (full P good) n) ps → Few alts
   few (inter_up is) b = (omega arith, tt)
   few (inter_down is) b = (omega arith, tt)
   few (union_up is e) b = (omega arith, tt)
@@ -137,7 +137,7 @@ module _ (K : ℕ → Option ℕ) (P : Plain) (good : Good P) where
 
   facts_kept :
       (m : ℕ) (fs : List Fact) → length fs ≤ 4 → FormsFit m fs →
-      All (FactFits P m) (alt_facts (row_of_facts fs))
+      AllByRecursion (FactFits P m) (alt_facts (row_of_facts fs))
   facts_kept m [] l b = tt
   facts_kept m (f ∷ []) l b = (fact_kept m f b.0, tt)
   facts_kept m (f ∷ g ∷ []) l b = (fact_kept m f b.0, (fact_kept m g b.1.0, tt))
@@ -151,13 +151,13 @@ module _ (K : ℕ → Option ℕ) (P : Plain) (good : Good P) where
 
   pub alts_kept :
       (n : ℕ) (alts : List Alt) → Few alts → AltsFit K (read_sheet P) (full P good) n alts →
-      All (λ (a : AltRow). All (FactFits P (n + a.fresh)) (alt_facts a)) (map write_alt alts)
+      AllByRecursion (λ (a : AltRow). AllByRecursion (FactFits P (n + a.fresh)) (alt_facts a)) (map write_alt alts)
   alts_kept n [] l b = tt
   alts_kept n (a ∷ alts) l b =
       (facts_kept (n + a.fresh) a.facts l.0 b.0, alts_kept n alts l.1 b.1)
 
   -- facts fit a branch with more names too
-  pub facts_up : (n m : ℕ) → n ≤ m → (fs : List FactRow) → All (FactFits P n) fs → All (FactFits P m) fs
+  pub facts_up : (n m : ℕ) → n ≤ m → (fs : List FactRow) → AllByRecursion (FactFits P n) fs → AllByRecursion (FactFits P m) fs
   facts_up n m l [] b = tt
   facts_up n m l (f ∷ fs) b = (
     record {

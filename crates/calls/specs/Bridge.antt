@@ -1,7 +1,7 @@
 -- The tests on plain records pass exactly where a rule of the calculus applies, with the same alternatives.
 use Rattle.std.specs.Prelude.{◌≡◌, ℕ, ◌+◌, ◌≤◌, List, ◌++◌, map, Ok}
 use Rattle.std.proofs.Math.Option.{Option}
-use Rattle.std.specs.List.{AllByRecursion as All}
+use Rattle.std.specs.List.{AllByRecursion}
 use Rattle.records.specs.declared.rows.Fact.{Fact as FactRow}
 use Rattle.records.specs.declared.rows.Step.{Step}
 use Rattle.rules.specs.declared.cited.Alt.{Alt as AltRow}
@@ -24,7 +24,7 @@ plan_alts P n x = map (read_alt P.rows) (alt_rows x.rule x.cited n)
 pub record Fair (P : Plain) (facts : List FactRow) (n : ℕ) : Type 0 where
   pub sheet : Good P
   pub named : names (read_sheet P) ≤ n
-  pub facts_fit : All (FactFits P n) facts
+  pub facts_fit : AllByRecursion (FactFits P n) facts
 
 -- The step x applies on the branch with these alternatives.
 abbrev pub AppliesTo : (ℕ → Option ℕ) → Plain → List FactRow → ℕ → Step → List Alt → Type 0
@@ -57,7 +57,7 @@ abbrev pub StaysFair : Type 0
 StaysFair =
     (K : ℕ → Option ℕ) (P : Plain) (facts : List FactRow) (n : ℕ) → Fair P facts n →
     (x : Step) (y : Plan) → planned K P.codes P.rows facts x ≡ Ok y →
-    All (λ (a : AltRow). Fair P (facts ++ alt_facts a) (n + a.fresh)) (alt_rows y.rule y.cited n)
+    AllByRecursion (λ (a : AltRow). Fair P (facts ++ alt_facts a) (n + a.fresh)) (alt_rows y.rule y.cited n)
 
 -- The four together.
 abbrev pub Bridged : Type 0

@@ -1,7 +1,7 @@
 -- A row passes its tests exactly where it fits, and a sheet whose rows passed as they came is fair.
 use Rattle.std.specs.Prelude.{◌≡◌, ℕ, ◌≤◌, true, ◌↔◌, List, ◌++◌, length, take}
 use Rattle.std.proofs.Math.Option.{some}
-use Rattle.std.specs.List.{AllByRecursion as All}
+use Rattle.std.specs.List.{AllByRecursion}
 use Rattle.std.proofs.Math.ListN.{get_elem?}
 use Rattle.records.specs.declared.rows.Fact.{Fact as FactRow}
 use Rattle.records.specs.declared.rows.TermRow.{TermRow}
@@ -38,7 +38,7 @@ pub record Passed (P : Plain) : Type 0 where
   pub rows :
       (t : ℕ) (r : TermRow) → get_elem? P.rows t ≡ some r →
       row_ok (take t P.rows) (names (read_sheet P)) t r ≡ true
-  pub constraints : All (λ (f : FactRow). fact_ok P.rows (names (read_sheet P)) f ≡ true) P.constraints
+  pub constraints : AllByRecursion (λ (f : FactRow). fact_ok P.rows (names (read_sheet P)) f ≡ true) P.constraints
 
 -- That is exactly a good sheet whose constraints are a branch that fits.
 abbrev pub SheetGranted : Type 0

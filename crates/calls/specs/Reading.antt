@@ -1,7 +1,7 @@
 -- The plain records read as rows and facts of the calculus, and written back.
 use Rattle.std.specs.Prelude.{◌≡◌, ℕ, ◌≤◌, Bool, cond, List, [], ◌∷◌, map, length, take, ◌==◌, slice_index, slice_index_or}
 use Rattle.std.proofs.Math.Option.{some}
-use Rattle.std.specs.List.{AllByRecursion as All}
+use Rattle.std.specs.List.{AllByRecursion}
 use Rattle.std.proofs.Math.ListN.{get_elem?}
 use Rattle.records.specs.declared.rows.Fact.{Fact as FactRow}
 use Rattle.records.specs.declared.rows.TermRow.{TermRow}
@@ -158,4 +158,4 @@ RowsFit P = (t : ℕ) (r : TermRow) → get_elem? P.rows t ≡ some r → RowFit
 pub record Good (P : Plain) : Type 0 where
   pub rows_fit : RowsFit P
   pub constraints_fit :
-      All (λ c. FormFits (read_sheet P).rows (names (read_sheet P)) c.form) (read_sheet P).constraints
+      AllByRecursion (λ c. FormFits (read_sheet P).rows (names (read_sheet P)) c.form) (read_sheet P).constraints

@@ -1,6 +1,6 @@
 -- Sheets and trials with their stores, read in the subject's words, and what every call keeps of them.
 use Rattle.std.specs.Prelude.{◌≡◌, ℕ, ◌+◌, ◌-◌, ◌<◌, ◌≤◌, List, [], ◌∷◌, ◌++◌, map, length, take}
-use Rattle.std.specs.List.{AllByRecursion as All, slice_get}
+use Rattle.std.specs.List.{AllByRecursion, slice_get}
 use Rattle.records.specs.declared.rows.Fact.{Fact as FactRow}
 use Rattle.records.specs.declared.verdict.Verdict.{Verdict}
 use Rattle.records.specs.declared.verdict.Verdict.TheVariants as verdict
@@ -116,12 +116,12 @@ pub record ForkFits (P : Plain) (facts : List FactRow) (c m : ℕ) (f : ForkRow)
   pub few_names : f.names ≤ 64
   pub left : f.next < alternatives_of f.rule
   pub names_fit :
-      All (λ (a : AltRow). f.names + a.fresh ≤ 64) (alt_rows f.rule (cited_at P facts f) f.names)
+      AllByRecursion (λ (a : AltRow). f.names + a.fresh ≤ 64) (alt_rows f.rule (cited_at P facts f) f.names)
   pub facts_fit :
-      All (λ (a : AltRow). f.facts + length (alt_facts a) ≤ 1024)
+      AllByRecursion (λ (a : AltRow). f.facts + length (alt_facts a) ≤ 1024)
       (alt_rows f.rule (cited_at P facts f) f.names)
   pub fair :
-      All (λ (a : AltRow). Fair P (take f.facts facts ++ alt_facts a) (f.names + a.fresh))
+      AllByRecursion (λ (a : AltRow). Fair P (take f.facts facts ++ alt_facts a) (f.names + a.fresh))
       (alt_rows f.rule (cited_at P facts f) f.names)
 
 -- Forks one over the other: each was made on a front of what the next was made on.

@@ -1,7 +1,7 @@
 -- What every mix keeps: the sheet of a trial that is reached is full, `reached_full`, and its state comes by a run of the calculus on which the verdict rests, `reached_tried`.
 use Rattle.std.proofs.Common.{◌≡◌, ℕ, ◌+◌, ◌<◌, ◌≤◌, List, [], ◌∷◌, length, sym, refl, subst, ⊎_elim, arith, length-append}
 use mathlib.Core.Option.{Option}
-use Rattle.std.specs.List.{AllByRecursion as All}
+use Rattle.std.specs.List.{AllByRecursion}
 use Rattle.std.proofs.ByRecursion.{All-append}
 use Rattle.meaning.specs.Terms.{Row, Sheet, names, Full}
 use Rattle.meaning.specs.Meaning.{Satisfies}
@@ -19,7 +19,7 @@ Usual r = (1 ≤ r.arity) × (r.arity ≤ 4)
 -- what is kept while rows come in: what is there fits, and no more than is due is there
 pub record Filled (D : Draft) : Type 0 where
   pub full : Full D.sheet
-  pub usual : All Usual D.sheet.rows
+  pub usual : AllByRecursion Usual D.sheet.rows
   pub codes_due : length D.sheet.codes ≤ D.labels
   pub rows_due : length D.sheet.rows ≤ D.terms
   pub constraints_due : length D.sheet.constraints ≤ D.constraints
@@ -38,10 +38,10 @@ abbrev pub Within : Branch → Type 0
 Within b = (b.count ≤ most_names) × (length b.facts ≤ most_facts)
 
 abbrev pub AltsWithin : Branch → List Alt → Type 0
-AltsWithin b alts = All (λ (a : Alt). Within (extend b a)) alts
+AltsWithin b alts = AllByRecursion (λ (a : Alt). Within (extend b a)) alts
 
 abbrev pub ForksWithin : List Fork → Type 0
-ForksWithin fs = All (λ (f : Fork). AltsWithin f.at (f.next ∷ f.later)) fs
+ForksWithin fs = AllByRecursion (λ (f : Fork). AltsWithin f.at (f.next ∷ f.later)) fs
 
 abbrev pub StateWithin : State → Type 0
 StateWithin (running b fs) = Within b × (length fs ≤ most_forks) × ForksWithin fs
@@ -56,14 +56,14 @@ applied_within b [] [] w k l ws = tt
 applied_within b [] (f ∷ fs) w k l ws = entered_within f.at f.next f.later fs ws.0 (omega arith) (λ _. omega arith) ws.1
 applied_within b (a ∷ more) fs w k l ws = entered_within b a more fs w l (λ h. k (omega arith)) ws
 
-room_within : (b : Branch) (alts : List Alt) → All (λ (a : Alt). (extend b a).count ≤ most_names) alts → All (λ (a : Alt). length (extend b a).facts ≤ most_facts) alts → AltsWithin b alts
+room_within : (b : Branch) (alts : List Alt) → AllByRecursion (λ (a : Alt). (extend b a).count ≤ most_names) alts → AllByRecursion (λ (a : Alt). length (extend b a).facts ≤ most_facts) alts → AltsWithin b alts
 room_within b [] ns fs = tt
 room_within b (a ∷ alts) ns fs = ((ns.0, fs.0), room_within b alts ns.1 fs.1)
 
 -- a sealed sheet: it is full and within its limits
 pub record Whole (S : Sheet) : Type 0 where
   pub full : Full S
-  pub usual : All Usual S.rows
+  pub usual : AllByRecursion Usual S.rows
   pub names_fit : names S ≤ most_sheet_names
   pub terms_fit : length S.rows ≤ most_terms
   pub constraints_fit : length S.constraints ≤ most_constraints

@@ -6,7 +6,7 @@ use mathlib.Core.List.{map-map, Memᴰ as Mem}
 use mathlib.Core.Option.{Option, none}
 use native.Mathlib.Decide.{dec_lt, ℕ_discrete}
 use lib.ListN.{get_elem?, length-map}
-use Rattle.std.specs.List.{AllByRecursion as All}
+use Rattle.std.specs.List.{AllByRecursion}
 use Rattle.std.proofs.lemmas.List.{get_or_past}
 use Rattle.meaning.specs.Terms.{variable, Row, Form, member, equal, same, Fact, Sheet, Arity, Full, FormFits}
 use Rattle.meaning.specs.Meaning.{Thing, labelled, unlabelled, Interp, SatFact, Bears, Reads, Satisfies, Satisfiable}
@@ -39,7 +39,7 @@ module _ (rs : List Row) (n t : ℕ) (v : List ℕ) where
   on_fits true (same s r) us h below m = below m
   on_fits false (same s r) us h below m = below m
 
-  tuple_fits : (cs : List Fact) → All (λ (c : Fact). FormFits rs n c.form) cs → Mem v (tuples cs t) → Arity rs t (length v)
+  tuple_fits : (cs : List Fact) → AllByRecursion (λ (c : Fact). FormFits rs n c.form) cs → Mem v (tuples cs t) → Arity rs t (length v)
   tuple_fits [] h m = absurd (Memᴰ.not-nil m)
   tuple_fits (c ∷ cs) h m = on_fits c.sign c.form (tuples cs t) h.0 (tuple_fits cs h.1) m
 
@@ -135,12 +135,12 @@ module _ (K : ℕ → Option ℕ) (S : Sheet) (n : ℕ) (rs : List ℕ) (lawful 
     by_thing = λ i. record { name = λ e. thing K S (rep rs e); rel = λ t. (maps means self (held S cs t) ∙ sym (maps (thing K S) (rep rs) (held S cs t))) i }
 
     -- what holds by number holds by thing, and the other way round
-    crossed : (ks : List Fact) → All (SatFact S.rows (move number J) (move number J).name) ks → All (SatFact S.rows (move means J) (move means J).name) ks
+    crossed : (ks : List Fact) → AllByRecursion (SatFact S.rows (move number J) (move number J).name) ks → AllByRecursion (SatFact S.rows (move means J) (move means J).name) ks
     unfolding move
     crossed [] h = tt
     crossed (k ∷ ks) h = ((sat_moved means means_inj S.rows J J.name k).0 ((sat_moved number number_inj S.rows J J.name k).1 h.0), crossed ks h.1)
 
-    crossed_back : (ks : List Fact) → All (SatFact S.rows (move means J) (move means J).name) ks → All (SatFact S.rows (move number J) (move number J).name) ks
+    crossed_back : (ks : List Fact) → AllByRecursion (SatFact S.rows (move means J) (move means J).name) ks → AllByRecursion (SatFact S.rows (move number J) (move number J).name) ks
     unfolding move
     crossed_back [] h = tt
     crossed_back (k ∷ ks) h = ((sat_moved number number_inj S.rows J J.name k).0 ((sat_moved means means_inj S.rows J J.name k).1 h.0), crossed_back ks h.1)
@@ -151,7 +151,7 @@ module _ (K : ℕ → Option ℕ) (S : Sheet) (n : ℕ) (rs : List ℕ) (lawful 
     pub satisfied_by_name : Satisfies S (Listed K S rs cs) → Satisfies S (Named S rs cs)
     satisfied_by_name h = subst (Satisfies S) by_name (crossed_back S.constraints (subst (Satisfies S) (sym by_thing) h))
 
-    pub read : All (λ (c : Fact). FormFits S.rows n c.form) cs → Reads K S (Listed K S rs cs)
+    pub read : AllByRecursion (λ (c : Fact). FormFits S.rows n c.form) cs → Reads K S (Listed K S rs cs)
     read fits = record {
       labels = λ e l. let a = lawful.label e l in (a.0, a.1, thing_label K S (rep rs e) a.0 a.2);
       sized = λ t k row u m.

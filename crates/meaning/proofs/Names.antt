@@ -2,14 +2,14 @@
 use Rattle.std.proofs.Common.{◌≡◌, ℕ, zero, suc, ◌+◌, ◌-◌, ◌<◌, Bool, true, false, ◌↔◌, List, [], ◌∷◌, map, length, get_or, sym, refl, ap, ◌∙◌, subst, ap₂, arith}
 use mathlib.Core.List.{reverse_aux}
 use native.Mathlib.Decide.{dec_lt}
-use Rattle.std.specs.List.{AllByRecursion as All}
+use Rattle.std.specs.List.{AllByRecursion}
 use Rattle.meaning.specs.Terms.{Row, Form, member, equal, same, Fact}
 use Rattle.meaning.specs.Meaning.{Interp, Holds, Sat, SatFact, Value}
 use Rattle.meaning.specs.Calculus.{up_from}
 
 -- the names of a form are below n
 abbrev pub FormBelow : ℕ → Form → Type 0
-FormBelow n (member u t) = All (λ e. e < n) u
+FormBelow n (member u t) = AllByRecursion (λ e. e < n) u
 FormBelow n (equal a b) = (a < n) × (b < n)
 FormBelow n (same s r) = Unit {0}
 
@@ -47,7 +47,7 @@ module _ {A : Type 0} where
       go (yes p) = absurd (omega arith)
       go (no k) = let q : n + j - n ≡ j = omega arith in ap (λ (i : ℕ). get_or u i (e (n + j))) q ∙ at u j (e (n + j)) h
 
-  pub map_old : (f g : ℕ → A) (n : ℕ) → ((i : ℕ) → i < n → f i ≡ g i) → (v : List ℕ) → All (λ i. i < n) v → map f v ≡ map g v
+  pub map_old : (f g : ℕ → A) (n : ℕ) → ((i : ℕ) → i < n → f i ≡ g i) → (v : List ℕ) → AllByRecursion (λ i. i < n) v → map f v ≡ map g v
   map_old f g n h [] b = refl
   map_old f g n h (x ∷ v) b = λ i. h x b.0 i ∷ map_old f g n h v b.1 i
 
@@ -74,6 +74,6 @@ module _ {A : Type 0} where
   sat_iff rs I f g true c c' h p = h.0 p
   sat_iff rs I f g false c c' h p = λ q. p (h.1 q)
 
-  pub sat_old : (rs : List Row) (I : Interp A) (f g : ℕ → A) (n : ℕ) → ((i : ℕ) → i < n → f i ≡ g i) → (cs : List Fact) → All (Below n) cs → All (SatFact rs I f) cs → All (SatFact rs I g) cs
+  pub sat_old : (rs : List Row) (I : Interp A) (f g : ℕ → A) (n : ℕ) → ((i : ℕ) → i < n → f i ≡ g i) → (cs : List Fact) → AllByRecursion (Below n) cs → AllByRecursion (SatFact rs I f) cs → AllByRecursion (SatFact rs I g) cs
   sat_old rs I f g n h [] b p = tt
   sat_old rs I f g n h (c ∷ cs) b p = (sat_iff rs I f g c.sign c.form c.form (holds_old rs I f g n h c.form b.0) p.0, sat_old rs I f g n h cs b.1 p.1)

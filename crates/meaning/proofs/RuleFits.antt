@@ -3,7 +3,7 @@ use Rattle.std.proofs.Common.{◌≡◌, ℕ, zero, suc, ◌+◌, ◌<◌, ◌�
 use mathlib.Core.List.{reverse_aux}
 use mathlib.Core.Option.{Option, some-injective}
 use lib.ListN.{length-reverse}
-use Rattle.std.specs.List.{AllByRecursion as All}
+use Rattle.std.specs.List.{AllByRecursion}
 use Rattle.std.proofs.ByRecursion.{All-append, All-weaker}
 use Rattle.meaning.specs.Terms.{Op, single, Row, Form, member, equal, same, Fact, Sheet, names, RowIs, Is, Arity, Full, OpFits, FormFits}
 use Rattle.meaning.specs.Meaning.{Bears}
@@ -15,7 +15,7 @@ form_up rs n m l (member u t) b = (b.0, All-weaker (λ i. i < n) (λ i. i < m) (
 form_up rs n m l (equal a c) b = (omega arith, omega arith)
 form_up rs n m l (same s r) b = b
 
-run_low : (n k m : ℕ) → n + k ≤ m → All (λ i. i < m) (up_from n k)
+run_low : (n k m : ℕ) → n + k ≤ m → AllByRecursion (λ i. i < m) (up_from n k)
 run_low n zero m h = tt
 run_low n (suc k) m h = (omega arith, run_low (n + 1) k m (omega arith))
 
@@ -23,11 +23,11 @@ run_length : (n k : ℕ) → length (up_from n k) ≡ k
 run_length n zero = refl
 run_length n (suc k) = ap suc (run_length (n + 1) k)
 
-reverse_low : (n : ℕ) (u v : List ℕ) → All (λ i. i < n) u → All (λ i. i < n) v → All (λ i. i < n) (reverse_aux u v)
+reverse_low : (n : ℕ) (u v : List ℕ) → AllByRecursion (λ i. i < n) u → AllByRecursion (λ i. i < n) v → AllByRecursion (λ i. i < n) (reverse_aux u v)
 reverse_low n [] v b c = c
 reverse_low n (x ∷ u) v b c = reverse_low n u (x ∷ v) b.1 (b.0, c)
 
-equalities_low : (rs : List Row) (n : ℕ) (u v : List ℕ) → All (λ i. i < n) u → All (λ i. i < n) v → All (λ (c : Fact). FormFits rs n c.form) (equalities u v)
+equalities_low : (rs : List Row) (n : ℕ) (u v : List ℕ) → AllByRecursion (λ i. i < n) u → AllByRecursion (λ i. i < n) v → AllByRecursion (λ (c : Fact). FormFits rs n c.form) (equalities u v)
 equalities_low rs n [] v b c = tt
 equalities_low rs n (x ∷ u) [] b c = tt
 equalities_low rs n (x ∷ u) (y ∷ v) b c = ((b.0, c.0), equalities_low rs n u v b.1 c.1)
@@ -40,7 +40,7 @@ module _ (K : ℕ → Option ℕ) (S : Sheet) (full : Full S) where
   Fits n c = FormFits S.rows n c.form
 
   abbrev pub AltsFit : ℕ → List Alt → Type 0
-  AltsFit n alts = All (λ (a : Alt). All (Fits (n + a.fresh)) a.facts) alts
+  AltsFit n alts = AllByRecursion (λ (a : Alt). AllByRecursion (Fits (n + a.fresh)) a.facts) alts
 
   pub to : {t k k' : ℕ} → k ≡ k' → Arity S.rows t k → Arity S.rows t k'
   to {t} e h = record { op = h.op; row = subst (RowIs S.rows t h.op) e h.row }
@@ -58,13 +58,13 @@ module _ (K : ℕ → Option ℕ) (S : Sheet) (full : Full S) where
   up : (n : ℕ) (f : Form) → FormFits S.rows n f → FormFits S.rows (n + 0) f
   up n f b = form_up S.rows n (n + 0) (omega arith) f b
 
-  single_low : {t : ℕ} {v : List ℕ} (n : ℕ) → Is S.rows t (single v) → names S ≤ n → All (λ i. i < n) v
+  single_low : {t : ℕ} {v : List ℕ} (n : ℕ) → Is S.rows t (single v) → names S ≤ n → AllByRecursion (λ i. i < n) v
   single_low {t} {v} n is l = All-weaker (λ i. i < names S) (λ i. i < n) (λ i h. omega arith) v (fit is).1
 
   label_low : {a x : ℕ} (n : ℕ) → Bears K S a x → names S ≤ n → a < n
   label_low {a} n b l = let h = bound S.codes a b.0 b.1 in omega arith
 
-  pub rule_fits : {n r t w : ℕ} {ps : List Fact} {alts : List Alt} → Rule K S n r t w ps alts → names S ≤ n → All (Fits n) ps → AltsFit n alts
+  pub rule_fits : {n r t w : ℕ} {ps : List Fact} {alts : List Alt} → Rule K S n r t w ps alts → names S ≤ n → AllByRecursion (Fits n) ps → AltsFit n alts
   rule_fits {n} (inter_up {u = u} {s = s} {t = t} is) l b = ((up n (member u t) (to (both s (fit is).0.1 b.0.0) (of is), b.0.1), tt), tt)
   rule_fits {n} (inter_down {u = u} {s = s} {r = r} {t = t} is) l b =
       let q = both t (of is) b.0.0 in
@@ -111,8 +111,8 @@ module _ (K : ℕ → Option ℕ) (S : Sheet) (full : Full S) where
       let h = all_parts (λ i. i < n) a c b.0.1 in
       let P : ℕ → Type 0 = λ i. i < n + 1 in
       let here : n < n + 1 = omega arith in
-      let ha : All P a = All-weaker (λ i. i < n) P (λ i q. omega arith) a h.0 in
-      let hc : All P c = All-weaker (λ i. i < n) P (λ i q. omega arith) c h.1 in
+      let ha : AllByRecursion P a = All-weaker (λ i. i < n) P (λ i q. omega arith) a h.0 in
+      let hc : AllByRecursion P c = All-weaker (λ i. i < n) P (λ i q. omega arith) c h.1 in
       (((to hs f.2.1, All-append P a (n ∷ []) ha (here, tt)), ((to hr f.3.1, (here, hc)), tt)), tt)
   rule_fits {n} (prod_up {u = u} {v = v} {s = s} {r = r} {t = t} is) l b =
       let f = fit is in

@@ -4,7 +4,7 @@ use mathlib.Core.List.{reverse-reverse, head-eq_of_cons-eq, tail-eq_of_cons-eq}
 use mathlib.Core.Option.{Option, some, some-injective}
 use native.Mathlib.Decide.{ℕ_discrete}
 use lib.ListN.{get_elem?, length-map}
-use Rattle.std.specs.List.{AllByRecursion as All}
+use Rattle.std.specs.List.{AllByRecursion}
 use Rattle.std.proofs.lemmas.List.{map-append}
 use Rattle.meaning.specs.Terms.{Op, closure, node, term, member, equal, same, Fact, pos, neg, Sheet, names, Is, Arity, OpFits, Full}
 use Rattle.meaning.specs.Meaning.{Thing, Thing-discrete, labelled, Chain, one, Interp, In, Value, SatFact, Bears, Reads}
@@ -30,7 +30,7 @@ cut {A} (x ∷ a) (y ∷ a') b b' l e =
     let r = cut a a' b b' (omega arith) (tail-eq_of_cons-eq e) in
     (ap₂ ◌∷◌ (head-eq_of_cons-eq e) r.0, r.1)
 
-pub all_parts : {X : Type 0} (P : X → Type 0) (a b : List X) → All P (a ++ b) → All P a × All P b
+pub all_parts : {X : Type 0} (P : X → Type 0) (a b : List X) → AllByRecursion P (a ++ b) → AllByRecursion P a × AllByRecursion P b
 all_parts P [] b h = (tt, h)
 all_parts P (x ∷ a) b h = let r = all_parts P a b h.1 in ((h.0, r.0), r.1)
 
@@ -67,7 +67,7 @@ module _ (K : ℕ → Option ℕ) (S : Sheet) (full : Full S) (I : Interp Thing)
 
   -- some alternative is satisfied by a meaning that keeps that of the names below n
   abbrev pub Goes : ℕ → (ℕ → Thing) → List Alt → Type 0
-  Goes n e alts = Some (λ (a : Alt). (e' : ℕ → Thing) × ((i : ℕ) → i < n → e' i ≡ e i) × All (SatFact S.rows I e') a.facts) alts
+  Goes n e alts = Some (λ (a : Alt). (e' : ℕ → Thing) × ((i : ℕ) → i < n → e' i ≡ e i) × AllByRecursion (SatFact S.rows I e') a.facts) alts
 
   label_of : {a x : ℕ} → Bears K S a x → I.name a ≡ labelled x
   label_of {a} {x} b =
@@ -79,7 +79,7 @@ module _ (K : ℕ → Option ℕ) (S : Sheet) (full : Full S) (I : Interp Thing)
   label_low : {a x : ℕ} → Bears K S a x → a < names S
   label_low {a} b = let h = bound S.codes a b.0 b.1 in omega arith
 
-  equalities_hold : (e : ℕ → Thing) (u v : List ℕ) → map e u ≡ map e v → All (SatFact S.rows I e) (equalities u v)
+  equalities_hold : (e : ℕ → Thing) (u v : List ℕ) → map e u ≡ map e v → AllByRecursion (SatFact S.rows I e) (equalities u v)
   equalities_hold e [] v h = tt
   equalities_hold e (a ∷ u) [] h = tt
   equalities_hold e (a ∷ u) (b ∷ v) h = (head-eq_of_cons-eq h, equalities_hold e u v (tail-eq_of_cons-eq h))
@@ -105,7 +105,7 @@ module _ (K : ℕ → Option ℕ) (S : Sheet) (full : Full S) (I : Interp Thing)
   apart : (n : ℕ) (e : ℕ → Thing) (k : ℕ) (u : List Thing) → length u ≡ k → (s r : ℕ) → Value S.rows I s u → ¬ (Value S.rows I r u) → (e' : ℕ → Thing) × ((i : ℕ) → i < n → e' i ≡ e i) × Value S.rows I s (map e' (up_from n k)) × ¬ (Value S.rows I r (map e' (up_from n k)))
   apart n e k u l s r v w = let q = map_new e n k u l in (put e n u, put_old e n u, moved s q v, λ h. w (subst (Value S.rows I r) q h))
 
-  joined_down : (n : ℕ) (e : ℕ → Thing) (a c : List ℕ) (s r : ℕ) → All (λ i. i < n) (a ++ c) → (m : Thing) → Value S.rows I s (map e a ++ (m ∷ [])) → Value S.rows I r (m ∷ map e c) → (e' : ℕ → Thing) × ((i : ℕ) → i < n → e' i ≡ e i) × (Value S.rows I s (map e' (a ++ (n ∷ []))) × (Value S.rows I r (map e' (n ∷ c)) × Unit {0}))
+  joined_down : (n : ℕ) (e : ℕ → Thing) (a c : List ℕ) (s r : ℕ) → AllByRecursion (λ i. i < n) (a ++ c) → (m : Thing) → Value S.rows I s (map e a ++ (m ∷ [])) → Value S.rows I r (m ∷ map e c) → (e' : ℕ → Thing) × ((i : ℕ) → i < n → e' i ≡ e i) × (Value S.rows I s (map e' (a ++ (n ∷ []))) × (Value S.rows I r (map e' (n ∷ c)) × Unit {0}))
   joined_down n e a c s r b m v w =
       let e' : ℕ → Thing = put e n (m ∷ []) in
       let old : (i : ℕ) → i < n → e' i ≡ e i = put_old e n (m ∷ []) in
@@ -152,7 +152,7 @@ module _ (K : ℕ → Option ℕ) (S : Sheet) (full : Full S) (I : Interp Thing)
             ),
           )))
 
-  pub rule_sound : {n r t w : ℕ} {ps : List Fact} {alts : List Alt} → Rule K S n r t w ps alts → names S ≤ n → (e : ℕ → Thing) → Extends e → All (Below n) ps → All (SatFact S.rows I e) ps → Goes n e alts
+  pub rule_sound : {n r t w : ℕ} {ps : List Fact} {alts : List Alt} → Rule K S n r t w ps alts → names S ≤ n → (e : ℕ → Thing) → Extends e → AllByRecursion (Below n) ps → AllByRecursion (SatFact S.rows I e) ps → Goes n e alts
   rule_sound (inter_up is) l e ex b p = inl (e, λ i h. refl, (shut' is _ (p.0, p.1.0), tt))
   rule_sound (inter_down is) l e ex b p = let v = open' is _ p.0 in inl (e, λ i h. refl, (v.0, (v.1, tt)))
   rule_sound (union_up {u = u} {s = s} {r = r} {x = x} is h) l e ex b p = inl (e, λ i h. refl, (shut' is _ (⊎_elim (λ q. inl (subst (λ (y : ℕ). Value S.rows I y (map e u)) q p.0)) (λ q. inr (subst (λ (y : ℕ). Value S.rows I y (map e u)) q p.0)) h), tt))

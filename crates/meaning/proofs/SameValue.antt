@@ -1,7 +1,7 @@
 -- Satisfaction depends on an interpretation only through the names of the sheet and the members of its variables: `satisfies_same`.
 use Rattle.std.proofs.Common.{◌≡◌, ℕ, zero, suc, ◌+◌, ◌<◌, Bool, true, false, ◌↔◌, List, [], ◌∷◌, ◌++◌, map, reverse, sym, ◌∙◌, subst, inl, inr, ⊎_elim, not-suc-le-zero, arith}
 use mathlib.Core.List.{Memᴰ as Mem}
-use Rattle.std.specs.List.{AllByRecursion as All}
+use Rattle.std.specs.List.{AllByRecursion}
 use Rattle.meaning.specs.Terms.{Op, variable, empty, single, union, inter, diff, transp, prod, join, closure, Row, Tm, Var, Empty, Single, Union, Inter, Diff, Transp, Prod, Join, Closure, node, term, Form, member, equal, same, Fact, Sheet, names, RowIs, Is, OpFits, FormFits, Full}
 use Rattle.meaning.specs.Meaning.{one, Interp, In, Value, Holds, Sat, SatFact, Satisfies}
 use Rattle.meaning.specs.Chains.{chain_bind}
@@ -12,7 +12,7 @@ use Rattle.meaning.proofs.Names.{map_old}
 abbrev pub Built : List Row → ℕ → Tm → Type 0
 Built rs n (Var t) = Is rs t variable
 Built rs n Empty = Unit {0}
-Built rs n (Single v) = All (λ e. e < n) v
+Built rs n (Single v) = AllByRecursion (λ e. e < n) v
 Built rs n (Union s r) = Built rs n s × Built rs n r
 Built rs n (Inter s r) = Built rs n s × Built rs n r
 Built rs n (Diff s r) = Built rs n s × Built rs n r
@@ -95,7 +95,7 @@ module _ {A : Type 0} (rs : List Row) (n : ℕ) (I J : Interp A) (names_same : (
     sat_same true f h p = (holds_same f h).0 p
     sat_same false f h p = λ q. p ((holds_same f h).1 q)
 
-    pub all_same : (cs : List Fact) → All (λ (c : Fact). FormFits rs n c.form) cs → All (SatFact rs I I.name) cs → All (SatFact rs J J.name) cs
+    pub all_same : (cs : List Fact) → AllByRecursion (λ (c : Fact). FormFits rs n c.form) cs → AllByRecursion (SatFact rs I I.name) cs → AllByRecursion (SatFact rs J J.name) cs
     all_same [] h p = tt
     all_same (c ∷ cs) h p = (sat_same c.sign c.form h.0 p.0, all_same cs h.1 p.1)
 

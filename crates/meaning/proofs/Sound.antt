@@ -2,7 +2,7 @@
 use Rattle.std.proofs.Common.{◌≡◌, ℕ, zero, suc, ◌+◌, ◌<◌, ◌≤◌, ◌⊎◌, List, [], ◌∷◌, sym, refl, ◌∙◌, subst, inl, inr, ⊎_elim, arith}
 use mathlib.Core.Option.{Option, some, some-injective}
 use lib.ListN.{get_elem?}
-use Rattle.std.specs.List.{AllByRecursion as All}
+use Rattle.std.specs.List.{AllByRecursion}
 use Rattle.std.proofs.ByRecursion.{All-append, All-weaker}
 use Rattle.meaning.specs.Terms.{Row, Form, member, equal, same, Fact, Sheet, names, Full, FormFits}
 use Rattle.meaning.specs.Meaning.{Thing, Interp, SatFact, Reads, Satisfiable}
@@ -12,12 +12,12 @@ use Rattle.meaning.proofs.RuleSound.{Some, rule_sound}
 use Rattle.meaning.proofs.RuleFits.{Fits, form_up, rule_fits}
 
 -- what all facts of a branch have, each of them has, and so those that are cited
-pub all_at : {X : Type 0} (P : X → Type 0) (l : List X) (i : ℕ) (x : X) → All P l → get_elem? l i ≡ some x → P x
+pub all_at : {X : Type 0} (P : X → Type 0) (l : List X) (i : ℕ) (x : X) → AllByRecursion P l → get_elem? l i ≡ some x → P x
 all_at P [] i x h e = absurd (let z : ◌≡◌ {A = ℕ} 0 1 = cc in omega arith)
 all_at P (y ∷ l) zero x h e = subst P (some-injective _ _ e) h.0
 all_at P (y ∷ l) (suc i) x h e = all_at P l i x h.1 e
 
-pub all_cited : (P : Fact → Type 0) (l ps : List Fact) {r p q : ℕ} → All P l → Cites l r p q ps → All P ps
+pub all_cited : (P : Fact → Type 0) (l ps : List Fact) {r p q : ℕ} → AllByRecursion P l → Cites l r p q ps → AllByRecursion P ps
 all_cited P l _ h cites_none = tt
 all_cited P l _ h (cites_one {p = p} {f = f} a) = (all_at P l p f h a.is, tt)
 all_cited P l _ h (cites_two {p = p} {q = q} {f = f} {g = g} a b) = (all_at P l p f h a.is, (all_at P l q g h b.is, tt))
@@ -34,19 +34,19 @@ fit_low rs n c h = go c.form h
 module _ (K : ℕ → Option ℕ) (S : Sheet) (full : Full S) where
   -- the branch has the sheet's names, and its facts fit the sheet
   abbrev pub Neat : Branch → Type 0
-  Neat b = (names S ≤ b.count) × All (Fits K S full b.count) b.facts
+  Neat b = (names S ≤ b.count) × AllByRecursion (Fits K S full b.count) b.facts
 
   abbrev pub NeatAlts : Branch → List Alt → Type 0
-  NeatAlts b alts = All (λ (a : Alt). Neat (extend b a)) alts
+  NeatAlts b alts = AllByRecursion (λ (a : Alt). Neat (extend b a)) alts
 
   abbrev pub NeatForks : List Fork → Type 0
-  NeatForks fs = All (λ (f : Fork). NeatAlts f.at (f.next ∷ f.later)) fs
+  NeatForks fs = AllByRecursion (λ (f : Fork). NeatAlts f.at (f.next ∷ f.later)) fs
 
   abbrev pub NeatState : State → Type 0
   NeatState (running b fs) = Neat b × NeatForks fs
   NeatState closed = Unit {0}
 
-  pub lows : (n : ℕ) (cs : List Fact) → All (Fits K S full n) cs → All (Below n) cs
+  pub lows : (n : ℕ) (cs : List Fact) → AllByRecursion (Fits K S full n) cs → AllByRecursion (Below n) cs
   lows n cs h = All-weaker (Fits K S full n) (Below n) (fit_low S.rows n) cs h
 
   entered_neat : (b : Branch) (a : Alt) (more : List Alt) (fs : List Fork) → NeatAlts b (a ∷ more) → NeatForks fs → NeatState (enter b a more fs)
@@ -58,7 +58,7 @@ module _ (K : ℕ → Option ℕ) (S : Sheet) (full : Full S) where
   applied_neat b [] (f ∷ fs) n nf = entered_neat f.at f.next f.later fs nf.0 nf.1
   applied_neat b (a ∷ more) fs n nf = entered_neat b a more fs n nf
 
-  neat_alts : (b : Branch) → Neat b → (alts : List Alt) → All (λ (a : Alt). All (Fits K S full (b.count + a.fresh)) a.facts) alts → NeatAlts b alts
+  neat_alts : (b : Branch) → Neat b → (alts : List Alt) → AllByRecursion (λ (a : Alt). AllByRecursion (Fits K S full (b.count + a.fresh)) a.facts) alts → NeatAlts b alts
   neat_alts b n [] h = tt
   neat_alts b n (a ∷ alts) h =
       let l : names S ≤ b.count = n.0 in
@@ -80,7 +80,7 @@ module _ (K : ℕ → Option ℕ) (S : Sheet) (full : Full S) where
   module _ (I : Interp Thing) (reads : Reads K S I) where
     -- some meaning of the names satisfies the branch
     abbrev Good : Branch → Type 0
-    Good b = (e : ℕ → Thing) × ((i : ℕ) → i < names S → e i ≡ I.name i) × All (SatFact S.rows I e) b.facts
+    Good b = (e : ℕ → Thing) × ((i : ℕ) → i < names S → e i ≡ I.name i) × AllByRecursion (SatFact S.rows I e) b.facts
 
     abbrev GoodAlts : Branch → List Alt → Type 0
     GoodAlts b alts = Some (λ (a : Alt). Good (extend b a)) alts
@@ -107,7 +107,7 @@ module _ (K : ℕ → Option ℕ) (S : Sheet) (full : Full S) where
     applied b [] (f ∷ fs) (inr g) = entered f.at f.next f.later fs g
     applied b (a ∷ more) fs g = entered b a more fs g
 
-    good_alts : (b : Branch) → Neat b → (g : Good b) (alts : List Alt) → Some (λ (a : Alt). (e' : ℕ → Thing) × ((i : ℕ) → i < b.count → e' i ≡ g.0 i) × All (SatFact S.rows I e') a.facts) alts → GoodAlts b alts
+    good_alts : (b : Branch) → Neat b → (g : Good b) (alts : List Alt) → Some (λ (a : Alt). (e' : ℕ → Thing) × ((i : ℕ) → i < b.count → e' i ≡ g.0 i) × AllByRecursion (SatFact S.rows I e') a.facts) alts → GoodAlts b alts
     good_alts b n g [] h = h
     good_alts b n g (a ∷ alts) (inl h) =
         let l : names S ≤ b.count = n.0 in

@@ -3,7 +3,7 @@ use Rattle.std.specs.Prelude.{◌≡◌, ℕ, ◌<◌, Bool, true, false, ◌⊎
 use mathlib.Core.List.{Memᴰ as Mem}
 use Rattle.std.proofs.Math.Option.{Option, some}
 use Rattle.std.proofs.Math.ListN.{get_elem?}
-use Rattle.std.specs.List.{AllByRecursion as All}
+use Rattle.std.specs.List.{AllByRecursion}
 use Rattle.meaning.specs.Terms.{variable, Row, RowIs, Form, member, equal, same, Fact, Sheet}
 use Rattle.meaning.specs.Terms.{Tm, Var, Empty, Single, Union, Inter, Diff, Transp, Prod, Join, Closure, term}
 
@@ -79,7 +79,7 @@ pub record Reads (K : CodeMeaning) (S : Sheet) (I : Interp Thing) : Type 0 where
 
 -- An interpretation satisfies each constraint of the sheet.
 abbrev pub Satisfies : {A : Type 0} → Sheet → Interp A → Type 0
-Satisfies S I = All (SatFact S.rows I I.name) S.constraints
+Satisfies S I = AllByRecursion (SatFact S.rows I I.name) S.constraints
 
 -- Some interpretation of the sheet under K satisfies its constraints.
 abbrev pub Satisfiable : CodeMeaning → Sheet → Type 0

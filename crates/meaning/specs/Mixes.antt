@@ -4,7 +4,7 @@ use Rattle.std.specs.Prelude.{◌≡◌, ℕ, ◌+◌, ◌*◌, ◌<◌, ◌≤�
 use mathlib.Core.List.{Memᴰ as Mem}
 use Rattle.std.proofs.Math.Option.{some}
 use Rattle.std.proofs.Math.ListN.{get_elem?}
-use Rattle.std.specs.List.{flat_map, AllByRecursion as All}
+use Rattle.std.specs.List.{flat_map, AllByRecursion}
 use Rattle.meaning.specs.Terms.{Op, variable, empty, single, union, inter, diff, transp, prod, join, closure}
 use Rattle.meaning.specs.Terms.{Row, Form, member, equal, same, Fact, Sheet, names, OpFits, FormFits}
 use Rattle.meaning.specs.Meaning.{CodeMeaning, Thing, Interp, Value, Satisfies}
@@ -229,8 +229,8 @@ pub data Call : Type 0 where
 -- A rule step has room: each alternative leaves a branch within the limits, and where there are two or more
 -- another fork may be open.
 pub record Room (b : Branch) (fs : List Fork) (alts : List Alt) : Type 0 where
-  pub names_fit : All (λ (a : Alt). (extend b a).count ≤ most_names) alts
-  pub facts_fit : All (λ (a : Alt). length (extend b a).facts ≤ most_facts) alts
+  pub names_fit : AllByRecursion (λ (a : Alt). (extend b a).count ≤ most_names) alts
+  pub facts_fit : AllByRecursion (λ (a : Alt). length (extend b a).facts ≤ most_facts) alts
   pub forks_fit : 2 ≤ length alts → length fs < most_forks
 
 -- No member of the list is there twice.

@@ -2,7 +2,7 @@
 use Rattle.std.specs.Prelude.{◌≡◌, ℕ, ◌+◌, ◌<◌, Bool, true, false, List, [], ◌∷◌, ◌++◌, length, get_or, slice_index_or}
 use Rattle.std.proofs.Math.Option.{some}
 use Rattle.std.proofs.Math.ListN.{get_elem?}
-use Rattle.std.specs.List.{AllByRecursion as All}
+use Rattle.std.specs.List.{AllByRecursion}
 
 infix 70 ◌∈◌ ◌∉◌ ◌≈◌ ◌≉◌ ◌≐◌ ◌≭◌
 infixl 72 ◌⊔◌ ◌⊓◌ ◌∖◌ ◌∗◌ ◌⋈◌
@@ -167,7 +167,7 @@ Before rs t s k = (s < t) × Arity rs s k
 abbrev pub OpFits : List Row → ℕ → ℕ → ℕ → Op → Type 0
 OpFits rs n t k variable = Unit {0}
 OpFits rs n t k empty = Unit {0}
-OpFits rs n t k (single v) = (length v ≡ k) × All (λ e. e < n) v
+OpFits rs n t k (single v) = (length v ≡ k) × AllByRecursion (λ e. e < n) v
 OpFits rs n t k (union s r) = Before rs t s k × Before rs t r k
 OpFits rs n t k (inter s r) = Before rs t s k × Before rs t r k
 OpFits rs n t k (diff s r) = Before rs t s k × Before rs t r k
@@ -180,7 +180,7 @@ OpFits rs n t k (closure s) = Before rs t s 2 × (k ≡ 2)
 
 -- What is asked of a form where there are n names: they are below n, and the arities agree.
 abbrev pub FormFits : List Row → ℕ → Form → Type 0
-FormFits rs n (member u t) = Arity rs t (length u) × All (λ e. e < n) u
+FormFits rs n (member u t) = Arity rs t (length u) × AllByRecursion (λ e. e < n) u
 FormFits rs n (equal a b) = (a < n) × (b < n)
 FormFits rs n (same s r) = (k : ℕ) × Arity rs s k × Arity rs r k
 
@@ -188,4 +188,4 @@ FormFits rs n (same s r) = (k : ℕ) × Arity rs s k × Arity rs r k
 pub record Full (S : Sheet) : Type 0 where
   pub rows_fit :
       (t : ℕ) (o : Op) (k : ℕ) → RowIs S.rows t o k → OpFits S.rows (names S) t k o
-  pub constraints_fit : All (λ c. FormFits S.rows (names S) c.form) S.constraints
+  pub constraints_fit : AllByRecursion (λ c. FormFits S.rows (names S) c.form) S.constraints

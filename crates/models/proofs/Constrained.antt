@@ -3,7 +3,7 @@
 use Rattle.std.proofs.Common.{◌≡◌, ℕ, zero, suc, ◌<◌, ◌≤◌, Bool, true, false, cond, eqb, ◌↔◌, List, [], ◌∷◌, map, length, get_or, take, Some, None, Option, sym, refl, ap, ◌∙◌, subst, arith}
 use mathlib.Core.Option as maybe
 use lib.ListN.{length-map, get_elem?}
-use Rattle.std.specs.List.{AllByRecursion as All}
+use Rattle.std.specs.List.{AllByRecursion}
 use Rattle.std.proofs.lemmas.List.{get_or-take, length-take-le}
 use Rattle.records.specs.declared.rows.Fact.{Fact}
 use Rattle.rules.specs.Facts.{no_fact}
@@ -105,7 +105,7 @@ module _ (P : Plain) (facts : List Fact) (n : ℕ) (rs : List ℕ) (ground : Gro
 
     all_read : (l : List Fact) (k : ℕ) → k ≤ length l →
         ((i : ℕ) → i < k → SatFact (read_sheet P).rows (named_by P facts rs) (rep rs) (read_fact P.rows (get_or l i no_fact))) →
-        All (SatFact (read_sheet P).rows (named_by P facts rs) (rep rs)) (map (read_fact P.rows) (take k l))
+        AllByRecursion (SatFact (read_sheet P).rows (named_by P facts rs) (rep rs)) (map (read_fact P.rows) (take k l))
     all_read l zero h f = tt
     all_read [] (suc k) h f = absurd (omega arith)
     all_read (x ∷ l) (suc k) h f = (f 0 (omega arith), all_read l k (omega arith) (λ i b. f (suc i) (omega arith)))
@@ -114,7 +114,7 @@ module _ (P : Plain) (facts : List Fact) (n : ℕ) (rs : List ℕ) (ground : Gro
         first_false (read_sheet P) (named_by P facts rs) (read_sheet P).constraints 0 ≡ answered r
     first_is None f =
         (satisfies_exact (read_sheet P) (named_by P facts rs)).1
-        (subst (λ (l : List Fact). All (SatFact (read_sheet P).rows (named_by P facts rs) (rep rs)) (map (read_fact P.rows) l)) (sym is)
+        (subst (λ (l : List Fact). AllByRecursion (SatFact (read_sheet P).rows (named_by P facts rs) (rep rs)) (map (read_fact P.rows) l)) (sym is)
         (all_read facts m few (λ i l. (satisfied_exact (get_or facts i no_fact) (fits_at i (omega arith))).0 (f i l))))
     first_is (Some k) f =
         first_false_found (read_sheet P) (named_by P facts rs) k

@@ -2,7 +2,7 @@
 use Rattle.std.proofs.Common.{◌≡◌, ℕ, Bool, true, false, cond, ◌&&◌, eqb, List, [], ◌∷◌, map, take, Some, None, sym, refl, ap, ◌∙◌, subst, inl, inr, ⊎_elim, arith}
 use mathlib.Core.List.Memᴰ
 use mathlib.Core.List.{Memᴰ as Mem}
-use Rattle.std.specs.List.{AllByRecursion as All}
+use Rattle.std.specs.List.{AllByRecursion}
 use Rattle.std.proofs.lemmas.List.{take-map}
 use Rattle.std.proofs.lemmas.Bool.{and_parts, eqb-true}
 use Rattle.records.specs.declared.rows.Fact.{Fact}
@@ -19,7 +19,7 @@ use Rattle.models.specs.Tuples.{places, Flat, Shows, by_names}
 use Rattle.models.specs.Rows.{fact_tuple, row_tuple, offered}
 use Rattle.models.proofs.Places.{flat_names}
 
-pub all_in : {X : Type 0} (Q : X → Type 0) (l : List X) (x : X) → All Q l → In l x → Q x
+pub all_in : {X : Type 0} (Q : X → Type 0) (l : List X) (x : X) → AllByRecursion Q l → In l x → Q x
 all_in Q [] x h m = absurd m
 all_in Q (y ∷ l) x h m = ⊎_elim (λ e. subst Q e h.0) (λ i. all_in Q l x h.1 i) m
 
@@ -97,7 +97,7 @@ offered_some rs t f x e = go (picks t f) refl e
     go true q h = (q, cc)
     go false q h = let z : ◌≡◌ {A = ℕ} 0 1 = cc in absurd (omega arith)
 
-module _ (P : Plain) (facts : List Fact) (n : ℕ) (rs : List ℕ) (z : rep rs 0 ≡ 0) (fit : All (FactFits P n) facts) (t : ℕ) where
+module _ (P : Plain) (facts : List Fact) (n : ℕ) (rs : List ℕ) (z : rep rs 0 ≡ 0) (fit : AllByRecursion (FactFits P n) facts) (t : ℕ) where
   -- the two tests of a fact that is picked
   picked : (f : Fact) → picks t f ≡ true → (eqb f.form 1 ≡ true) × (f.term ≡ t)
   picked f e =
