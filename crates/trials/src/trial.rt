@@ -4,14 +4,14 @@ use records::verdict::Verdict;
 
 mod acts;
 mod begins;
-mod calls;
-mod models;
 mod opens;
 mod outcomes;
 mod plans;
 mod seals;
 mod settles;
 mod steps;
+mod takes;
+mod weighs;
 
 // A trial of a sheet: how many labels, free names, terms and constraints the sheet has; the names, facts and
 // forks of the branch that is at hand; how many records were granted and steps denied; and the verdict. It is
