@@ -34,8 +34,8 @@ module _ (K : ℕ → Option ℕ) (f : Filling) (h : Held) (o : Orderly f h) (bs
   rows = take f.terms_in h.terms
 
   -- the stores with the fact
-  abbrev IsStored : FactRow → Held
-  IsStored w = with_facts h (set h.facts f.constraints_in w)
+  abbrev stored : FactRow → Held
+  stored w = with_facts h (set h.facts f.constraints_in w)
 
   -- the sheet so far is good
   good : Good (plain_in f h)
@@ -43,7 +43,7 @@ module _ (K : ℕ → Option ℕ) (f : Filling) (h : Held) (o : Orderly f h) (bs
 
   more :
       (w : FactRow) → f.constraints_in < f.constraints →
-      take (f.constraints_in + 1) (IsStored w).facts ≡ take f.constraints_in h.facts ++ (w ∷ [])
+      take (f.constraints_in + 1) (stored w).facts ≡ take f.constraints_in h.facts ++ (w ∷ [])
   more w l =
       let p = o.few_constraints in
       let q = o.enough.facts in
@@ -53,7 +53,7 @@ module _ (K : ℕ → Option ℕ) (f : Filling) (h : Held) (o : Orderly f h) (bs
   draft_is :
       (w : FactRow) → f.constraints_in < f.constraints →
       drafted (read_draft f h) (with_constraint (read_draft f h).sheet (read_fact rows w))
-      ≡ read_draft (one_constraint f) (IsStored w)
+      ≡ read_draft (one_constraint f) (stored w)
   draft_is w l =
       let old = take f.constraints_in h.facts in
       let ec = sym (ap (map (read_fact rows)) (more w l) ∙ map_push (read_fact rows) old w) in
@@ -74,7 +74,7 @@ module _ (K : ℕ → Option ℕ) (f : Filling) (h : Held) (o : Orderly f h) (bs
   -- each constraint passed
   passed :
       (w : FactRow) → f.constraints_in < f.constraints → fact_ok rows (names (read_sheet (plain_in f h))) w ≡ true →
-      Passed (plain_in (one_constraint f) (IsStored w))
+      Passed (plain_in (one_constraint f) (stored w))
   passed w l e =
       record {
         rows = o.passed.rows;
@@ -85,7 +85,7 @@ module _ (K : ℕ → Option ℕ) (f : Filling) (h : Held) (o : Orderly f h) (bs
 
   orderly :
       (w : FactRow) → f.labels_in ≡ f.labels → f.terms_in ≡ f.terms → f.constraints_in < f.constraints →
-      fact_ok rows (names (read_sheet (plain_in f h))) w ≡ true → Orderly (one_constraint f) (IsStored w)
+      fact_ok rows (names (read_sheet (plain_in f h))) w ≡ true → Orderly (one_constraint f) (stored w)
   orderly w el et l e =
       record {
         enough = fact_kept h f.constraints_in w o.enough;
@@ -106,14 +106,14 @@ module _ (K : ℕ → Option ℕ) (f : Filling) (h : Held) (o : Orderly f h) (bs
       RowTold bs (row.Constraint r) → leb r.sign 1 ≡ true →
       FactFits (plain_in f h) (names (read_sheet (plain_in f h))) (fact_said r) →
       Grants K (filling (read_draft f h)) (subject.add bs)
-      (filling (read_draft (one_constraint f) (IsStored (fact_said r))))
+      (filling (read_draft (one_constraint f) (stored (fact_said r))))
   grants r el et l told es b =
       let F = read_fact rows (fact_said r) in
       let er : said_by (write_fact F) ≡ r = ap said_by b.written ∙ said_again r es in
       subst
       (λ (x : List ℕ).
       Grants K (filling (read_draft f h)) (subject.add x)
-      (filling (read_draft (one_constraint f) (IsStored (fact_said r)))))
+      (filling (read_draft (one_constraint f) (stored (fact_said r)))))
       (fact_written F (told ∙ ap (λ (x : ConstraintRow). 67 ∷ 78 ∷ constraint_bytes x) (sym er)))
       (subst (λ (D : Draft). Grants K (filling (read_draft f h)) (subject.add (67 ∷ 78 ∷ fact_bytes F)) (filling D))
       (draft_is (fact_said r) l)
@@ -138,7 +138,7 @@ module _ (K : ℕ → Option ℕ) (f : Filling) (h : Held) (o : Orderly f h) (bs
       (leb r.sign 1 && fact_ok rows (f.labels + f.free) (fact_said r)) ≡ z →
       Exactly K f h bs
       (cond z
-      (record { result = Ok tt; sheet = one_constraint f; stores = IsStored (fact_said r) })
+      (record { result = Ok tt; sheet = one_constraint f; stores = stored (fact_said r) })
       (not_added f h (IllConstraint f.constraints_in)))
   by_test r e told el et l true q =
       let p = and_split (leb r.sign 1) (fact_ok rows (f.labels + f.free) (fact_said r)) q in

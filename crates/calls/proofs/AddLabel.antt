@@ -26,12 +26,12 @@ valued (some x) e = (x, refl)
 
 module _ (K : ℕ → Option ℕ) (f : Filling) (h : Held) (o : Orderly f h) (bs : List ℕ) where
   -- the stores with the label
-  abbrev IsStored : ℕ → Held
-  IsStored c = with_labels h (set h.labels f.labels_in c)
+  abbrev stored : ℕ → Held
+  stored c = with_labels h (set h.labels f.labels_in c)
 
   more :
       (c : ℕ) → f.labels_in < f.labels →
-      take (f.labels_in + 1) (IsStored c).labels ≡ take f.labels_in h.labels ++ (c ∷ [])
+      take (f.labels_in + 1) (stored c).labels ≡ take f.labels_in h.labels ++ (c ∷ [])
   more c l =
       let p = o.few_names in
       let q = o.enough.labels in
@@ -40,7 +40,7 @@ module _ (K : ℕ → Option ℕ) (f : Filling) (h : Held) (o : Orderly f h) (bs
   -- the draft has one code more
   draft_is :
       (c : ℕ) → f.labels_in < f.labels →
-      drafted (read_draft f h) (with_code (read_draft f h).sheet c) ≡ read_draft (one_label f) (IsStored c)
+      drafted (read_draft f h) (with_code (read_draft f h).sheet c) ≡ read_draft (one_label f) (stored c)
   draft_is c l =
       λ i.
       record {
@@ -57,7 +57,7 @@ module _ (K : ℕ → Option ℕ) (f : Filling) (h : Held) (o : Orderly f h) (bs
       }
 
   -- all stays in order: there are neither terms nor constraints yet
-  orderly : (c : ℕ) → f.labels_in < f.labels → Orderly (one_label f) (IsStored c)
+  orderly : (c : ℕ) → f.labels_in < f.labels → Orderly (one_label f) (stored c)
   orderly c l =
       let et = no_terms f h o l in
       let ec = no_constraints_yet f h o l in
@@ -72,20 +72,20 @@ module _ (K : ℕ → Option ℕ) (f : Filling) (h : Held) (o : Orderly f h) (bs
         labels_first = λ m. absurd (omega arith);
         terms_first = λ m. absurd (omega arith);
         passed =
-            none_passed (plain_in (one_label f) (IsStored c)) (no_front f.terms_in h.terms et)
+            none_passed (plain_in (one_label f) (stored c)) (no_front f.terms_in h.terms et)
             (no_front f.constraints_in h.facts ec);
       }
 
   -- the subject grants it
   grants :
       (c : ℕ) → f.labels_in < f.labels → RowTold bs (row.Label c) → known_by K c ≡ true →
-      Grants K (filling (read_draft f h)) (subject.add bs) (filling (read_draft (one_label f) (IsStored c)))
+      Grants K (filling (read_draft f h)) (subject.add bs) (filling (read_draft (one_label f) (stored c)))
   grants c l told ek =
       let v = valued (K c) ek in
       let ec = told.5 in
       subst
       (λ (b : List ℕ).
-      Grants K (filling (read_draft f h)) (subject.add b) (filling (read_draft (one_label f) (IsStored c))))
+      Grants K (filling (read_draft f h)) (subject.add b) (filling (read_draft (one_label f) (stored c))))
       (sym told.4)
       (subst
       (λ (D : Draft).
@@ -99,7 +99,7 @@ module _ (K : ℕ → Option ℕ) (f : Filling) (h : Held) (o : Orderly f h) (bs
       known_by K c ≡ z →
       Exactly K f h bs
       (cond z
-      (record { result = Ok tt; sheet = one_label f; stores = IsStored c })
+      (record { result = Ok tt; sheet = one_label f; stores = stored c })
       (not_added f h (UnknownLabel c)))
   by_known c e told l true ek = (orderly c l, grants c l told ek)
   by_known c e told l false ek =

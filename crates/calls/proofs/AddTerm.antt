@@ -54,10 +54,10 @@ module _ (K : ℕ → Option ℕ) (f : Filling) (h : Held) (o : Orderly f h) (bs
   before = take f.terms_in h.terms
 
   -- the stores with the term
-  abbrev IsStored : TermRow → Held
-  IsStored r = with_terms h (set h.terms f.terms_in r)
+  abbrev stored : TermRow → Held
+  stored r = with_terms h (set h.terms f.terms_in r)
 
-  more : (r : TermRow) → f.terms_in < f.terms → take (f.terms_in + 1) (IsStored r).terms ≡ before ++ (r ∷ [])
+  more : (r : TermRow) → f.terms_in < f.terms → take (f.terms_in + 1) (stored r).terms ≡ before ++ (r ∷ [])
   more r l =
       let p = o.few_terms in
       let q = o.enough.terms in
@@ -76,10 +76,10 @@ module _ (K : ℕ → Option ℕ) (f : Filling) (h : Held) (o : Orderly f h) (bs
   -- the draft has one row more
   draft_is :
       (r : TermRow) → f.terms_in < f.terms →
-      drafted (read_draft f h) (with_row (read_draft f h).sheet (read_row r)) ≡ read_draft (one_term f) (IsStored r)
+      drafted (read_draft f h) (with_row (read_draft f h).sheet (read_row r)) ≡ read_draft (one_term f) (stored r)
   draft_is r l =
       let er = sym (ap (map read_row) (more r l) ∙ map_push read_row before r) in
-      let ec = read_none l before (take (f.terms_in + 1) (IsStored r).terms) in
+      let ec = read_none l before (take (f.terms_in + 1) (stored r).terms) in
       λ i.
       record {
         labels = f.labels;
@@ -98,7 +98,7 @@ module _ (K : ℕ → Option ℕ) (f : Filling) (h : Held) (o : Orderly f h) (bs
   passed :
       (r : TermRow) → f.terms_in < f.terms →
       row_ok before (names (read_sheet (plain_in f h))) f.terms_in r ≡ true →
-      Passed (plain_in (one_term f) (IsStored r))
+      Passed (plain_in (one_term f) (stored r))
   passed r l e =
       subst Passed
       (λ i.
@@ -117,7 +117,7 @@ module _ (K : ℕ → Option ℕ) (f : Filling) (h : Held) (o : Orderly f h) (bs
 
   orderly :
       (r : TermRow) → f.labels_in ≡ f.labels → f.terms_in < f.terms →
-      row_ok before (names (read_sheet (plain_in f h))) f.terms_in r ≡ true → Orderly (one_term f) (IsStored r)
+      row_ok before (names (read_sheet (plain_in f h))) f.terms_in r ≡ true → Orderly (one_term f) (stored r)
   orderly r el l e =
       let ec = no_constraints f h o l in
       record {
@@ -137,11 +137,11 @@ module _ (K : ℕ → Option ℕ) (f : Filling) (h : Held) (o : Orderly f h) (bs
   grants :
       (r : TermRow) → f.labels_in ≡ f.labels → f.terms_in < f.terms → RowTold bs (row.Term r) →
       RowFits (plain_in f h) f.terms_in r →
-      Grants K (filling (read_draft f h)) (subject.add bs) (filling (read_draft (one_term f) (IsStored r)))
+      Grants K (filling (read_draft f h)) (subject.add bs) (filling (read_draft (one_term f) (stored r)))
   grants r el l told b =
       subst
       (λ (x : List ℕ).
-      Grants K (filling (read_draft f h)) (subject.add x) (filling (read_draft (one_term f) (IsStored r))))
+      Grants K (filling (read_draft f h)) (subject.add x) (filling (read_draft (one_term f) (stored r))))
       (row_written (read_row r) (told ∙ ap (λ (x : TermRow). 84 ∷ 77 ∷ term_bytes x) (sym b.written)))
       (subst
       (λ (D : Draft).
@@ -172,7 +172,7 @@ module _ (K : ℕ → Option ℕ) (f : Filling) (h : Held) (o : Orderly f h) (bs
       (r : TermRow) → row_in bs ≡ row.Term r → RowTold bs (row.Term r) → f.labels_in ≡ f.labels →
       f.terms_in < f.terms → (z : Bool) → row_ok before (f.labels + f.free) f.terms_in r ≡ z →
       Exactly K f h bs
-      (cond z (record { result = Ok tt; sheet = one_term f; stores = IsStored r })
+      (cond z (record { result = Ok tt; sheet = one_term f; stores = stored r })
       (not_added f h (IllTerm f.terms_in)))
   by_test r e told el l true q =
       let q' = ap (λ (n : ℕ). row_ok before n f.terms_in r) (names_in f h o el) ∙ q in

@@ -1,5 +1,5 @@
--- One call of the functions goes exactly where the subject goes (`call-exact`), and so does a whole run
--- (`runs-exact`).
+-- One call of the functions goes exactly where the subject goes (`call_exact_by`), and so does a whole run
+-- (`runs_exact_by`).
 use Rattle.std.proofs.Common.{◌≡◌, ℕ, List, [], ◌∷◌, Ok, Err, Result, sym, refl, subst}
 use mathlib.Core.Option.{Option}
 use Rattle.records.specs.declared.refusal.Refusal.{Refusal}

@@ -22,8 +22,8 @@ use trials::settled::Settled;
 use trials::trial::Trial;
 
 // Settles a trial whose steps are made; a refusal counts as one past the last record.
-fn settle(trial: Trial, record: u32) -> Result<Settled, Stop>
-    ensures { (h : Held) → or_stopped (settle_of (counts trial)) (settled (counts trial) h) «record» h
+fn settle(trial: Trial, last: u32) -> Result<Settled, Stop>
+    ensures { (h : Held) → or_stopped (settle_of (counts trial)) (settled (counts trial) h) last h
         ≡ ended result h }
 {
     match trial.settle() {
@@ -31,7 +31,10 @@ fn settle(trial: Trial, record: u32) -> Result<Settled, Stop>
         Err(back) => {
             let (trial, refusal) = back;
             trial.give_up();
-            Err(Stop { refusal, record })
+            Err(Stop {
+                refusal,
+                record: last,
+            })
         }
     }
 }
