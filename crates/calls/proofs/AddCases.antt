@@ -2,9 +2,9 @@
 use Rattle.std.proofs.Common.{◌≡◌, ℕ, ◌<◌, ◌≤◌, true, List, length, sym, refl, ap, subst}
 use mathlib.Core.Option.{Option}
 use Rattle.records.specs.declared.refusal.Refusal.{Refusal}
-use Rattle.records.specs.declared.record.RowRecord.{RowRecord}
+use Rattle.std.specs.declared.option.Option.TheVariants as option
 use Rattle.records.specs.declared.record.RowRecord.TheVariants as row
-use Rattle.records.specs.Reading.{row_in}
+use Rattle.records.specs.Reading.{RowRead, row_in}
 use Rattle.labels.specs.Kinds.{has_value, known_by}
 use Rattle.meaning.specs.Terms.{Row, Fact, names, OpFits, FormFits}
 use Rattle.meaning.specs.Mixes.{Draft, Stage, filling, Grants, label_row, term_row, constraint_row}
@@ -33,11 +33,11 @@ pub record ConstraintCase (D : Draft) (F : Fact) : Type 0 where
   pub fits : FormFits D.sheet.rows (names D.sheet) F.form
 
 -- What is asked, by the row that was read.
-abbrev pub Case : (ℕ → Option ℕ) → Draft → RowRecord → Type 0
-Case K D (row.Label c) = (length D.sheet.codes < D.labels) × (known_by K c ≡ true)
-Case K D (row.Term r) = (R : Row) × (write_row R ≡ r) × TermCase D R
-Case K D (row.Constraint r) = (F : Fact) × (said_by (write_fact F) ≡ r) × ConstraintCase D F
-Case K D row.Other = ⊥
+abbrev pub Case : (ℕ → Option ℕ) → Draft → RowRead → Type 0
+Case K D (option.Some (row.Label c)) = (length D.sheet.codes < D.labels) × (known_by K c ≡ true)
+Case K D (option.Some (row.Term r)) = (R : Row) × (write_row R ≡ r) × TermCase D R
+Case K D (option.Some (row.Constraint r)) = (F : Fact) × (said_by (write_fact F) ≡ r) × ConstraintCase D F
+Case K D option.None = ⊥
 
 pub case_of :
     (K : ℕ → Option ℕ) (D : Draft) (bs : List ℕ) (st : Stage) → Grants K (filling D) (subject.add bs) st →
@@ -55,7 +55,7 @@ Exactly K f h bs a = AddExact K f h bs a.sheet a.stores a.result
 
 -- a row that is refused where the subject's case has no proof
 pub refused :
-    (K : ℕ → Option ℕ) (f : Filling) (h : Held) (bs : List ℕ) (x : RowRecord) → row_in bs ≡ x → (e : Refusal) →
+    (K : ℕ → Option ℕ) (f : Filling) (h : Held) (bs : List ℕ) (x : RowRead) → row_in bs ≡ x → (e : Refusal) →
     (Case K (read_draft f h) x → ⊥) → Exactly K f h bs (not_added f h e)
 refused K f h bs x q e never =
     (refl, refl, λ st g. never (subst (Case K (read_draft f h)) q (case_of K (read_draft f h) bs st g)))

@@ -8,6 +8,7 @@ use Rattle.records.specs.declared.rows.Fact.{Fact as FactRow}
 use Rattle.records.specs.declared.rows.TermRow.{TermRow}
 use Rattle.records.specs.declared.rows.ConstraintRow.{ConstraintRow}
 use Rattle.records.specs.declared.refusal.Refusal.TheVariants.{NotDue, IllConstraint}
+use Rattle.std.specs.declared.option.Option.TheVariants as option
 use Rattle.records.specs.declared.record.RowRecord.TheVariants as row
 use Rattle.records.specs.Reading.{row_in}
 use Rattle.meaning.specs.Terms.{names}
@@ -103,7 +104,7 @@ module _ (K : ℕ → Option ℕ) (f : Filling) (h : Held) (o : Orderly f h) (bs
   -- the subject grants it
   grants :
       (r : ConstraintRow) → f.labels_in ≡ f.labels → f.terms_in ≡ f.terms → f.constraints_in < f.constraints →
-      RowTold bs (row.Constraint r) → leb r.sign 1 ≡ true →
+      RowTold bs (option.Some (row.Constraint r)) → leb r.sign 1 ≡ true →
       FactFits (plain_in f h) (names (read_sheet (plain_in f h))) (fact_said r) →
       Grants K (filling (read_draft f h)) (subject.add bs)
       (filling (read_draft (one_constraint f) (stored (fact_said r))))
@@ -121,7 +122,7 @@ module _ (K : ℕ → Option ℕ) (f : Filling) (h : Held) (o : Orderly f h) (bs
 
   -- the sign and the fact of a row that the subject's case has
   fits_when :
-      (r : ConstraintRow) → Case K (read_draft f h) (row.Constraint r) →
+      (r : ConstraintRow) → Case K (read_draft f h) (option.Some (row.Constraint r)) →
       (leb r.sign 1 ≡ true) × FactFits (plain_in f h) (names (read_sheet (plain_in f h))) (fact_said r)
   fits_when r q =
       let F = q.0 in
@@ -133,7 +134,7 @@ module _ (K : ℕ → Option ℕ) (f : Filling) (h : Held) (o : Orderly f h) (bs
       )
 
   by_test :
-      (r : ConstraintRow) → row_in bs ≡ row.Constraint r → RowTold bs (row.Constraint r) →
+      (r : ConstraintRow) → row_in bs ≡ option.Some (row.Constraint r) → RowTold bs (option.Some (row.Constraint r)) →
       f.labels_in ≡ f.labels → f.terms_in ≡ f.terms → f.constraints_in < f.constraints → (z : Bool) →
       (leb r.sign 1 && fact_ok rows (f.labels + f.free) (fact_said r)) ≡ z →
       Exactly K f h bs
@@ -148,7 +149,7 @@ module _ (K : ℕ → Option ℕ) (f : Filling) (h : Held) (o : Orderly f h) (bs
             ((granted.1 (plain_in f h) good.rows_fit (names (read_sheet (plain_in f h))) (fact_said r)).0 q'),
       )
   by_test r e told el et l false q =
-      refused K f h bs (row.Constraint r) e (IllConstraint f.constraints_in)
+      refused K f h bs (option.Some (row.Constraint r)) e (IllConstraint f.constraints_in)
       (λ c.
       (let b = fits_when r c in
       both_ways (leb r.sign 1 && fact_ok rows (f.labels + f.free) (fact_said r)) q
@@ -157,14 +158,14 @@ module _ (K : ℕ → Option ℕ) (f : Filling) (h : Held) (o : Orderly f h) (bs
       ∙ (granted.1 (plain_in f h) good.rows_fit (names (read_sheet (plain_in f h))) (fact_said r)).1 b.1))))
 
   by_due :
-      (r : ConstraintRow) → row_in bs ≡ row.Constraint r → RowTold bs (row.Constraint r) →
+      (r : ConstraintRow) → row_in bs ≡ option.Some (row.Constraint r) → RowTold bs (option.Some (row.Constraint r)) →
       f.labels_in ≡ f.labels → f.terms_in ≡ f.terms → (z : Bool) → ltb f.constraints_in f.constraints ≡ z →
       Exactly K f h bs (cond z (constraint_added f h r) (not_added f h NotDue))
   by_due r e told el et true q =
       by_test r e told el et (ltb-true _ _ q)
       (leb r.sign 1 && fact_ok rows (f.labels + f.free) (fact_said r)) refl
   by_due r e told el et false q =
-      refused K f h bs (row.Constraint r) e NotDue
+      refused K f h bs (option.Some (row.Constraint r)) e NotDue
       (λ c.
       (let l = ltb-false f.constraints_in f.constraints q in
       let m = c.2.due in
@@ -172,13 +173,13 @@ module _ (K : ℕ → Option ℕ) (f : Filling) (h : Held) (o : Orderly f h) (bs
       omega arith))
 
   by_terms :
-      (r : ConstraintRow) → row_in bs ≡ row.Constraint r → RowTold bs (row.Constraint r) →
+      (r : ConstraintRow) → row_in bs ≡ option.Some (row.Constraint r) → RowTold bs (option.Some (row.Constraint r)) →
       f.labels_in ≡ f.labels → (z : Bool) → ltb f.terms_in f.terms ≡ z →
       Exactly K f h bs
       (cond z (not_added f h NotDue)
       (cond (ltb f.constraints_in f.constraints) (constraint_added f h r) (not_added f h NotDue)))
   by_terms r e told el true q =
-      refused K f h bs (row.Constraint r) e NotDue
+      refused K f h bs (option.Some (row.Constraint r)) e NotDue
       (λ c.
       (let l = ltb-true f.terms_in f.terms q in
       let m = c.2.terms in
@@ -190,8 +191,8 @@ module _ (K : ℕ → Option ℕ) (f : Filling) (h : Held) (o : Orderly f h) (bs
       by_due r e told el (omega arith) (ltb f.constraints_in f.constraints) refl
 
   pub constraint_exact :
-      (r : ConstraintRow) → row_in bs ≡ row.Constraint r → RowTold bs (row.Constraint r) →
-      Exactly K f h bs (row_added K f h (row.Constraint r))
+      (r : ConstraintRow) → row_in bs ≡ option.Some (row.Constraint r) → RowTold bs (option.Some (row.Constraint r)) →
+      Exactly K f h bs (row_added K f h (option.Some (row.Constraint r)))
   constraint_exact r e told = by_labels (ltb f.labels_in f.labels) refl
     where
       by_labels :
@@ -201,7 +202,7 @@ module _ (K : ℕ → Option ℕ) (f : Filling) (h : Held) (o : Orderly f h) (bs
           (cond (ltb f.terms_in f.terms) (not_added f h NotDue)
           (cond (ltb f.constraints_in f.constraints) (constraint_added f h r) (not_added f h NotDue))))
       by_labels true q =
-          refused K f h bs (row.Constraint r) e NotDue
+          refused K f h bs (option.Some (row.Constraint r)) e NotDue
           (λ c.
           (let l = ltb-true f.labels_in f.labels q in
           let m = c.2.labels in

@@ -4,6 +4,7 @@ use mathlib.Core.Option.{Option, none, some}
 use borrow.Author.Tests.{both_ways}
 use Rattle.std.proofs.lemmas.List.{take_more_set}
 use Rattle.records.specs.declared.refusal.Refusal.TheVariants.{NotDue, UnknownLabel}
+use Rattle.std.specs.declared.option.Option.TheVariants as option
 use Rattle.records.specs.declared.record.RowRecord.TheVariants as row
 use Rattle.records.specs.Reading.{row_in}
 use Rattle.labels.specs.Kinds.{has_value, known_by}
@@ -78,7 +79,7 @@ module _ (K : ℕ → Option ℕ) (f : Filling) (h : Held) (o : Orderly f h) (bs
 
   -- the subject grants it
   grants :
-      (c : ℕ) → f.labels_in < f.labels → RowTold bs (row.Label c) → known_by K c ≡ true →
+      (c : ℕ) → f.labels_in < f.labels → RowTold bs (option.Some (row.Label c)) → known_by K c ≡ true →
       Grants K (filling (read_draft f h)) (subject.add bs) (filling (read_draft (one_label f) (stored c)))
   grants c l told ek =
       let v = valued (K c) ek in
@@ -95,7 +96,7 @@ module _ (K : ℕ → Option ℕ) (f : Filling) (h : Held) (o : Orderly f h) (bs
       (label_row told.0 told.1 told.2 told.3 (omega (arith, codes_in f h o)) (ap K ec ∙ v.1)))
 
   by_known :
-      (c : ℕ) → row_in bs ≡ row.Label c → RowTold bs (row.Label c) → f.labels_in < f.labels → (z : Bool) →
+      (c : ℕ) → row_in bs ≡ option.Some (row.Label c) → RowTold bs (option.Some (row.Label c)) → f.labels_in < f.labels → (z : Bool) →
       known_by K c ≡ z →
       Exactly K f h bs
       (cond z
@@ -103,10 +104,10 @@ module _ (K : ℕ → Option ℕ) (f : Filling) (h : Held) (o : Orderly f h) (bs
       (not_added f h (UnknownLabel c)))
   by_known c e told l true ek = (orderly c l, grants c l told ek)
   by_known c e told l false ek =
-      refused K f h bs (row.Label c) e (UnknownLabel c) (λ q. both_ways (known_by K c) ek q.1)
+      refused K f h bs (option.Some (row.Label c)) e (UnknownLabel c) (λ q. both_ways (known_by K c) ek q.1)
 
   pub label_exact :
-      (c : ℕ) → row_in bs ≡ row.Label c → RowTold bs (row.Label c) → Exactly K f h bs (row_added K f h (row.Label c))
+      (c : ℕ) → row_in bs ≡ option.Some (row.Label c) → RowTold bs (option.Some (row.Label c)) → Exactly K f h bs (row_added K f h (option.Some (row.Label c)))
   label_exact c e told = by_due (ltb f.labels_in f.labels) refl
     where
       by_due :
@@ -114,7 +115,7 @@ module _ (K : ℕ → Option ℕ) (f : Filling) (h : Held) (o : Orderly f h) (bs
           Exactly K f h bs (cond z (label_added K f h c) (not_added f h NotDue))
       by_due true q = by_known c e told (ltb-true _ _ q) (known_by K c) refl
       by_due false q =
-          refused K f h bs (row.Label c) e NotDue
+          refused K f h bs (option.Some (row.Label c)) e NotDue
           (λ p.
           (let l = ltb-false f.labels_in f.labels q in
           let m = p.0 in

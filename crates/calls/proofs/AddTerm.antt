@@ -6,6 +6,7 @@ use lib.ListN.{get_elem?}
 use Rattle.std.proofs.lemmas.List.{take_more_set, take_at, take-append-le}
 use Rattle.records.specs.declared.rows.TermRow.{TermRow}
 use Rattle.records.specs.declared.refusal.Refusal.TheVariants.{NotDue, IllTerm}
+use Rattle.std.specs.declared.option.Option.TheVariants as option
 use Rattle.records.specs.declared.record.RowRecord.TheVariants as row
 use Rattle.records.specs.Reading.{row_in}
 use Rattle.meaning.specs.Terms.{names, OpFits}
@@ -135,7 +136,7 @@ module _ (K : ℕ → Option ℕ) (f : Filling) (h : Held) (o : Orderly f h) (bs
 
   -- the subject grants it
   grants :
-      (r : TermRow) → f.labels_in ≡ f.labels → f.terms_in < f.terms → RowTold bs (row.Term r) →
+      (r : TermRow) → f.labels_in ≡ f.labels → f.terms_in < f.terms → RowTold bs (option.Some (row.Term r)) →
       RowFits (plain_in f h) f.terms_in r →
       Grants K (filling (read_draft f h)) (subject.add bs) (filling (read_draft (one_term f) (stored r)))
   grants r el l told b =
@@ -154,7 +155,7 @@ module _ (K : ℕ → Option ℕ) (f : Filling) (h : Held) (o : Orderly f h) (bs
 
   -- a row that fits is one that the subject's case has
   fits_when :
-      (r : TermRow) → Case K (read_draft f h) (row.Term r) → RowFits (plain_in f h) f.terms_in r
+      (r : TermRow) → Case K (read_draft f h) (option.Some (row.Term r)) → RowFits (plain_in f h) f.terms_in r
   fits_when r q =
       let R = q.0 in
       let c = q.2 in
@@ -169,7 +170,7 @@ module _ (K : ℕ → Option ℕ) (f : Filling) (h : Held) (o : Orderly f h) (bs
   short = let e = plain_rows f h o in omega arith
 
   by_test :
-      (r : TermRow) → row_in bs ≡ row.Term r → RowTold bs (row.Term r) → f.labels_in ≡ f.labels →
+      (r : TermRow) → row_in bs ≡ option.Some (row.Term r) → RowTold bs (option.Some (row.Term r)) → f.labels_in ≡ f.labels →
       f.terms_in < f.terms → (z : Bool) → row_ok before (f.labels + f.free) f.terms_in r ≡ z →
       Exactly K f h bs
       (cond z (record { result = Ok tt; sheet = one_term f; stores = stored r })
@@ -178,19 +179,19 @@ module _ (K : ℕ → Option ℕ) (f : Filling) (h : Held) (o : Orderly f h) (bs
       let q' = ap (λ (n : ℕ). row_ok before n f.terms_in r) (names_in f h o el) ∙ q in
       (orderly r el l q', grants r el l told ((granted.0 (plain_in f h) f.terms_in r short).0 q'))
   by_test r e told el l false q =
-      refused K f h bs (row.Term r) e (IllTerm f.terms_in)
+      refused K f h bs (option.Some (row.Term r)) e (IllTerm f.terms_in)
       (λ c.
       both_ways (row_ok before (f.labels + f.free) f.terms_in r) q
       (ap (λ (n : ℕ). row_ok before n f.terms_in r) (sym (names_in f h o el))
       ∙ (granted.0 (plain_in f h) f.terms_in r short).1 (fits_when r c)))
 
   by_due :
-      (r : TermRow) → row_in bs ≡ row.Term r → RowTold bs (row.Term r) → f.labels_in ≡ f.labels → (z : Bool) →
+      (r : TermRow) → row_in bs ≡ option.Some (row.Term r) → RowTold bs (option.Some (row.Term r)) → f.labels_in ≡ f.labels → (z : Bool) →
       ltb f.terms_in f.terms ≡ z → Exactly K f h bs (cond z (term_added f h r) (not_added f h NotDue))
   by_due r e told el true q =
       by_test r e told el (ltb-true _ _ q) (row_ok before (f.labels + f.free) f.terms_in r) refl
   by_due r e told el false q =
-      refused K f h bs (row.Term r) e NotDue
+      refused K f h bs (option.Some (row.Term r)) e NotDue
       (λ c.
       (let l = ltb-false f.terms_in f.terms q in
       let m = c.2.due in
@@ -198,8 +199,8 @@ module _ (K : ℕ → Option ℕ) (f : Filling) (h : Held) (o : Orderly f h) (bs
       omega arith))
 
   pub term_exact :
-      (r : TermRow) → row_in bs ≡ row.Term r → RowTold bs (row.Term r) →
-      Exactly K f h bs (row_added K f h (row.Term r))
+      (r : TermRow) → row_in bs ≡ option.Some (row.Term r) → RowTold bs (option.Some (row.Term r)) →
+      Exactly K f h bs (row_added K f h (option.Some (row.Term r)))
   term_exact r e told = by_labels (ltb f.labels_in f.labels) refl
     where
       by_labels :
@@ -208,7 +209,7 @@ module _ (K : ℕ → Option ℕ) (f : Filling) (h : Held) (o : Orderly f h) (bs
           (cond z (not_added f h NotDue)
           (cond (ltb f.terms_in f.terms) (term_added f h r) (not_added f h NotDue)))
       by_labels true q =
-          refused K f h bs (row.Term r) e NotDue
+          refused K f h bs (option.Some (row.Term r)) e NotDue
           (λ c.
           (let l = ltb-true f.labels_in f.labels q in
           let m = c.2.labels in

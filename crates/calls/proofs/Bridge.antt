@@ -13,7 +13,8 @@ use Rattle.rules.specs.declared.cited.Cited.{Cited}
 use Rattle.rules.specs.declared.cited.Plan.{Plan}
 use Rattle.rules.specs.Facts.{no_fact}
 use Rattle.rules.specs.Rules.{line_met}
-use Rattle.rules.specs.Looked.{number, rule_of, uses, untouched, looked, cited_by, zeros_kept}
+use Rattle.records.specs.Kinds.{rule_number, rule_of}
+use Rattle.rules.specs.Looked.{uses, untouched, looked, cited_by, zeros_kept}
 use Rattle.rules.specs.Looked.{plan_q, plan_p, plan_rule, planned}
 use Rattle.meaning.specs.Terms.{Fact, names}
 use Rattle.meaning.specs.Calculus.{Alt, Rule, At, alone, Cites, cites_none, cites_one, cites_two}
@@ -78,7 +79,7 @@ module _ (K : ℕ → Option ℕ) (P : Plain) (good : Good P) where
 
     -- a plan from what it is made of
     make :
-        (x : Step) (r : RuleName) (f g : FactRow) → number r ≡ x.rule →
+        (x : Step) (r : RuleName) (f g : FactRow) → rule_number r ≡ x.rule →
         Looks (uses r).p x.p f → Looks (uses r).q x.q g →
         untouched (uses r).t x.t ≡ true → untouched (uses r).w x.w ≡ true →
         line_met r (cites r x f g) ≡ true →
@@ -170,18 +171,18 @@ module _ (K : ℕ → Option ℕ) (P : Plain) (good : Good P) where
     citing :
         (r : RuleName) (p q : ℕ) (f g : FactRow) (ps : List Fact) →
         Looks (uses r).p p f → Looks (uses r).q q g →
-        From r (eqb p q) (read_fact P.rows f) (read_fact P.rows g) ps → Cites branch (number r) p q ps
+        From r (eqb p q) (read_fact P.rows f) (read_fact P.rows g) ps → Cites branch (rule_number r) p q ps
     citing r p q f g ps hp hq (from_none up uq) =
         let zp = sym (zero_when (uses r).p p up hp.1) in
         let zq = sym (zero_when (uses r).q q uq hq.1) in
-        subst (λ (i : ℕ). Cites branch (number r) i q []) zp
-        (subst (λ (i : ℕ). Cites branch (number r) 0 i []) zq cites_none)
+        subst (λ (i : ℕ). Cites branch (rule_number r) i q []) zp
+        (subst (λ (i : ℕ). Cites branch (rule_number r) 0 i []) zq cites_none)
     citing r p q f g ps hp hq (from_one {h = h} up uq ne e) =
         let zq = sym (zero_when (uses r).q q uq hq.1) in
-        subst (λ (i : ℕ). Cites branch (number r) p i (h ∷ [])) (ap (λ (z : Bool). cond z p 0) ne ∙ zq)
+        subst (λ (i : ℕ). Cites branch (rule_number r) p i (h ∷ [])) (ap (λ (z : Bool). cond z p 0) ne ∙ zq)
         (cites_one (at_read p f h (sees (uses r).p p f up hp.0) e))
     citing r p q f g ps hp hq (from_twice {h = h} up uq n11 o e) =
-        subst (λ (i : ℕ). Cites branch (number r) p i (h ∷ []))
+        subst (λ (i : ℕ). Cites branch (rule_number r) p i (h ∷ []))
         (ap (λ (i : ℕ). alone i p) n11 ∙ eqb-true p q o)
         (cites_one (at_read p f h (sees (uses r).p p f up hp.0) e))
     citing r p q f g ps hp hq (from_two {h = h} {k = k} up uq e e') =

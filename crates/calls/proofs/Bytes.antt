@@ -3,9 +3,10 @@ use Rattle.std.proofs.Common.{◌≡◌, ℕ, zero, suc, Bool, true, false, cond
 use Rattle.records.specs.declared.rows.Header.{Header}
 use Rattle.records.specs.declared.rows.TermRow.{TermRow}
 use Rattle.records.specs.declared.rows.ConstraintRow.{ConstraintRow}
-use Rattle.records.specs.declared.record.RowRecord.{RowRecord}
+use Rattle.std.specs.declared.option.Option.TheVariants as option
 use Rattle.records.specs.declared.record.RowRecord.TheVariants as row
 use Rattle.records.specs.Reading.{
+  RowRead,
   byte,
   marked,
   whole,
@@ -71,34 +72,34 @@ header_told bs = go (whole 7 83 72 bs) refl
     go false e = tt
 
 -- what a row that was read says of the bytes
-abbrev pub RowTold : List ℕ → RowRecord → Type 0
-RowTold bs (row.Label c) =
+abbrev pub RowTold : List ℕ → RowRead → Type 0
+RowTold bs (option.Some (row.Label c)) =
     (x : ℕ) × (y : ℕ) × (z : ℕ) × (v : ℕ) × (bs ≡ 76 ∷ 66 ∷ x ∷ y ∷ z ∷ v ∷ []) × (code_from x y z v ≡ c)
-RowTold bs (row.Term r) = bs ≡ 84 ∷ 77 ∷ term_bytes r
-RowTold bs (row.Constraint r) = bs ≡ 67 ∷ 78 ∷ constraint_bytes r
-RowTold bs row.Other = Unit {0}
+RowTold bs (option.Some (row.Term r)) = bs ≡ 84 ∷ 77 ∷ term_bytes r
+RowTold bs (option.Some (row.Constraint r)) = bs ≡ 67 ∷ 78 ∷ constraint_bytes r
+RowTold bs option.None = Unit {0}
 
 pub row_told : (bs : List ℕ) → RowTold bs (row_in bs)
 row_told bs = by_label (whole 6 76 66 bs) refl
   where
     by_constraint :
-        (z : Bool) → whole 9 67 78 bs ≡ z → RowTold bs (cond z (row.Constraint (constraint_of bs)) row.Other)
+        (z : Bool) → whole 9 67 78 bs ≡ z → RowTold bs (cond z (option.Some (row.Constraint (constraint_of bs))) option.None)
     by_constraint true e = spelt 7 67 78 bs e
     by_constraint false e = tt
 
     by_term :
         (z : Bool) → whole 8 84 77 bs ≡ z →
         RowTold bs
-        (cond z (row.Term (term_of bs))
-        (cond (whole 9 67 78 bs) (row.Constraint (constraint_of bs)) row.Other))
+        (cond z (option.Some (row.Term (term_of bs)))
+        (cond (whole 9 67 78 bs) (option.Some (row.Constraint (constraint_of bs))) option.None))
     by_term true e = spelt 6 84 77 bs e
     by_term false e = by_constraint (whole 9 67 78 bs) refl
 
     by_label :
         (z : Bool) → whole 6 76 66 bs ≡ z →
         RowTold bs
-        (cond z (row.Label (code_of bs))
-        (cond (whole 8 84 77 bs) (row.Term (term_of bs))
-        (cond (whole 9 67 78 bs) (row.Constraint (constraint_of bs)) row.Other)))
+        (cond z (option.Some (row.Label (code_of bs)))
+        (cond (whole 8 84 77 bs) (option.Some (row.Term (term_of bs)))
+        (cond (whole 9 67 78 bs) (option.Some (row.Constraint (constraint_of bs))) option.None)))
     by_label true e = (byte bs 2, byte bs 3, byte bs 4, byte bs 5, spelt 4 76 66 bs e, refl)
     by_label false e = by_term (whole 8 84 77 bs) refl

@@ -6,13 +6,14 @@ use Rattle.records.specs.declared.rows.Fact.{Fact as FactRow}
 use Rattle.records.specs.declared.rows.TermRow.{TermRow}
 use Rattle.records.specs.declared.rule.Rule.{Rule as RuleName}
 use Rattle.records.specs.declared.rule.Rule.TheVariants as R
-use Rattle.rules.specs.declared.cited.Names.{Names}
+use Rattle.records.specs.declared.tuple.Tuple.{Tuple}
 use Rattle.rules.specs.declared.cited.Cited.{Cited}
 use Rattle.rules.specs.declared.cited.Alt.{Alt as AltRow}
-use Rattle.rules.specs.Tuples.{reversed, joined, rest_from, name_at, fresh_names, before_all}
+use Rattle.records.specs.Tuples.{reversed, joined, rest_from, name_at, fresh_names, before_all}
 use Rattle.rules.specs.Facts.{in_fact, one_of, two_of, equalities_of}
 use Rattle.rules.specs.Rules.{line_met}
-use Rattle.rules.specs.Looked.{number, uses, untouched, row_at, labels_for}
+use Rattle.records.specs.Kinds.{rule_number}
+use Rattle.rules.specs.Looked.{uses, untouched, row_at, labels_for}
 use Rattle.meaning.specs.Terms.{Op, member, equal, same, Fact, Is, Arity}
 use Rattle.meaning.specs.Calculus.{Alt, up_from, equalities, Rule, inter_up, inter_down, union_up, union_down}
 use Rattle.meaning.specs.Calculus.{diff_up, diff_down, single_up, single_down, empty_unsat, set_diseq}
@@ -53,12 +54,12 @@ equalities_are (x ∷ y ∷ z ∷ o ∷ q ∷ u) v e l h = absurd (omega arith)
 
 -- an alternative of one member fact
 single_alt :
-    (g : Bool) (t : ℕ) {u v : Names} → u ≡ v →
+    (g : Bool) (t : ℕ) {u v : Tuple} → u ≡ v →
     ◌≡◌ {A = List AltRow} (one_of (in_fact g u t) ∷ []) (one_of (in_fact g v t) ∷ [])
-single_alt g t e = ap (λ (x : Names). one_of (in_fact g x t) ∷ []) e
+single_alt g t e = ap (λ (x : Tuple). one_of (in_fact g x t) ∷ []) e
 
 -- the two alternatives of terms that are not equal, by their tuple of k fresh names
-abbrev apart : ℕ → Names → ℕ → ℕ → List AltRow
+abbrev apart : ℕ → Tuple → ℕ → ℕ → List AltRow
 apart k z s r =
     two_of k (in_fact true z s) (in_fact false z r) ∷ two_of k (in_fact false z s) (in_fact true z r) ∷ []
 
@@ -87,7 +88,7 @@ module _ (K : ℕ → Option ℕ) (P : Plain) (good : Good P) where
   pass :
       (r : RuleName) (n : ℕ) (o : Bool) {ps : List Fact} →
       (uses r).p ≡ cites_p ps →
-      (uses r).q ≡ cites_q (number r) ps →
+      (uses r).q ≡ cites_q (rule_number r) ps →
       (f g : FactRow) (t w : ℕ) {alts : List AltRow} {a b : TermRow} {l : ℕ} →
       untouched (uses r).t t ≡ true →
       untouched (uses r).w w ≡ true →
@@ -96,7 +97,7 @@ module _ (K : ℕ → Option ℕ) (P : Plain) (good : Good P) where
       (row_at P.rows (row_at P.rows f.term).a).arity ≡ l →
       line_met r (cite r o f g t w a b l) ≡ true →
       alt_rows r (cite r o f g t w a b l) n ≡ alts →
-      Passes K P n (number r) o ps f g t w alts
+      Passes K P n (rule_number r) o ps f g t w alts
   unfolding cite
   pass r n o hp hq f g t w {alts = alts} ht hw ea eb el m e =
       let row = row_at P.rows f.term in
@@ -166,7 +167,7 @@ module _ (K : ℕ → Option ℕ) (P : Plain) (good : Good P) where
       let l = arity_low P good ar in
       let z : fresh_names k n ≡ names_of (up_from n k) = fresh_is k n l.0 l.1 in
       pass R.SetDiseq n o refl refl _ _ 0 0 refl refl refl refl refl refl
-      (ap (λ (x : ℕ). apart x (fresh_names x n) s r) q ∙ ap (λ (x : Names). apart k x s r) z)
+      (ap (λ (x : ℕ). apart x (fresh_names x n) s r) q ∙ ap (λ (x : Tuple). apart k x s r) z)
   complete {n} (eq_unsat_names {a = a}) b o h =
       pass R.EqUnsat n o refl refl _ _ 0 0 refl refl refl refl refl
       (or_left false (and_true (h refl) (or_left false (eqb_self a)))) refl
@@ -203,7 +204,7 @@ module _ (K : ℕ → Option ℕ) (P : Plain) (good : Good P) where
       let u = names_of (a ++ (m ∷ [])) in
       let e : name_at (k - 1) u ≡ m = ap (λ (i : ℕ). name_at i u) ks ∙ at_is a [] m la in
       let er : rest_from 1 (names_of (m ∷ c)) ≡ names_of c = rest_is (m ∷ []) c (omega arith) in
-      let ej = ap₂ (λ (i : ℕ) (x : Names). joined i u x) ks er ∙ joined_is a (m ∷ []) c (omega arith) in
+      let ej = ap₂ (λ (i : ℕ) (x : Tuple). joined i u x) ks er ∙ joined_is a (m ∷ []) c (omega arith) in
       pass R.JoinUp n o refl refl _ _ t 0 refl refl refl (row_of P good is) refl
       (and_true (eqb_self s)
       (and_true (eqb_self r) (and_true (le-leb 1 k (omega arith)) (eq-eqb _ m e))))
@@ -217,7 +218,7 @@ module _ (K : ℕ → Option ℕ) (P : Plain) (good : Good P) where
       let er = ap (λ (i : ℕ). rest_from i u) ks ∙ rest_is a c (omega (arith, length-append a c)) in
       pass R.JoinDown n o refl refl _ _ 0 0 refl refl (row_of P good is) refl (left_of is refl ar)
       (le-leb 1 (length a + 1) (omega arith))
-      (ap₂ (λ (x y : Names). two_of 1 (in_fact true x s) (in_fact true (before_all n y) r) ∷ []) ej er)
+      (ap₂ (λ (x y : Tuple). two_of 1 (in_fact true x s) (in_fact true (before_all n y) r) ∷ []) ej er)
   complete {n} (prod_up {u = u} {v = v} {s = s} {r = r} {t = t} is) b o h =
       let l = arity_low P good b.0.0 in
       let e =
@@ -232,7 +233,7 @@ module _ (K : ℕ → Option ℕ) (P : Plain) (good : Good P) where
       let ej = joined_is u v [] l.1 ∙ ap names_of (append_nil u) in
       let er = rest_is u v (omega (arith, length-append u v)) in
       pass R.ProdDown n o refl refl _ _ 0 0 refl refl (row_of P good is) refl (left_of is refl ar) refl
-      (ap₂ (λ (x y : Names). two_of 0 (in_fact true x s) (in_fact true y r) ∷ []) ej er)
+      (ap₂ (λ (x y : Tuple). two_of 0 (in_fact true x s) (in_fact true y r) ∷ []) ej er)
   complete {n} (tclos_up_one {t = t} is) b o h =
       pass R.ClosUpOne n o refl refl _ _ t 0 refl refl refl (row_of P good is) refl (simp eqb_self) refl
   complete {n} (tclos_up_two is) b o h =

@@ -1,11 +1,11 @@
 -- The subject grants a call at most one stage, where it is read from numbers and stores (`single`).
 use Rattle.std.proofs.Common.{◌≡◌, ℕ, ◌⊎◌, List, [], length, drop, sym, refl, ap, ◌∙◌, subst, inl, inr, arith}
 use mathlib.Core.Option.{Option, none}
-use Rattle.records.specs.declared.record.RowRecord.{RowRecord}
+use Rattle.std.specs.declared.option.Option.TheVariants as option
 use Rattle.records.specs.declared.record.RowRecord.TheVariants as row
 use Rattle.records.specs.declared.verdict.Verdict.{Verdict}
 use Rattle.records.specs.declared.verdict.Verdict.TheVariants as verdict
-use Rattle.records.specs.Reading.{byte, row_in, step_of}
+use Rattle.records.specs.Reading.{RowRead, byte, row_in, step_of}
 use Rattle.meaning.specs.Terms.{Row, Fact, names}
 use Rattle.meaning.specs.Calculus.{Alt, Branch, Fork, State, running, closed, apply, Applies}
 use Rattle.meaning.specs.Mixes.{Draft, drafted, with_code, with_row, with_constraint, Trial, moved, modelled}
@@ -31,22 +31,22 @@ use Rattle.calls.proofs.Runs.{Single}
 -- ── rows ───────────────────────────────────────────────────────────────────
 
 -- Where a granted row leads, by the row that was read.
-abbrev Led : Draft → RowRecord → Stage → Type 0
-Led D (row.Label c) st = st ≡ filling (drafted D (with_code D.sheet c))
-Led D (row.Term r) st =
+abbrev Led : Draft → RowRead → Stage → Type 0
+Led D (option.Some (row.Label c)) st = st ≡ filling (drafted D (with_code D.sheet c))
+Led D (option.Some (row.Term r)) st =
     (R : Row) × (write_row R ≡ r) × TermCase D R × (st ≡ filling (drafted D (with_row D.sheet R)))
-Led D (row.Constraint r) st =
+Led D (option.Some (row.Constraint r)) st =
     (F : Fact) × (said_by (write_fact F) ≡ r) × ConstraintCase D F
     × (st ≡ filling (drafted D (with_constraint D.sheet F)))
-Led D row.Other st = ⊥
+Led D option.None st = ⊥
 
 led : (K : ℕ → Option ℕ) (D : Draft) (bs : List ℕ) (st : Stage) → Grants K (filling D) (add bs) st → Led D (row_in bs) st
 led K D bs st (label_row a b c d l e) = refl
 led K D bs st (term_row R l t low high b) =
-    subst (λ (x : RowRecord). Led D x st) (sym (row_read R))
+    subst (λ (x : RowRead). Led D x st) (sym (row_read R))
     (R, refl, record { labels = l; due = t; low = low; high = high; fits = b }, refl)
 led K D bs st (constraint_row F l t c b) =
-    subst (λ (x : RowRecord). Led D x st) (sym (fact_read F))
+    subst (λ (x : RowRead). Led D x st) (sym (fact_read F))
     (F, refl, record { labels = l; terms = t; due = c; fits = b }, refl)
 
 module _ (f : Filling) (h : Held) (o : Orderly f h) where
@@ -54,15 +54,15 @@ module _ (f : Filling) (h : Held) (o : Orderly f h) where
   good = (((rows.granted).4 (plain_in f h)).0 o.passed).sheet
 
   led_one :
-      (x : RowRecord) (st st' : Stage) → Led (read_draft f h) x st → Led (read_draft f h) x st' → st ≡ st'
-  led_one (row.Label c) st st' e e' = e ∙ sym e'
-  led_one (row.Term r) st st' (R, w, c, e) (R', w', c', e') =
+      (x : RowRead) (st st' : Stage) → Led (read_draft f h) x st → Led (read_draft f h) x st' → st ≡ st'
+  led_one (option.Some (row.Label c)) st st' e e' = e ∙ sym e'
+  led_one (option.Some (row.Term r)) st st' (R, w, c, e) (R', w', c', e') =
       let S = (read_draft f h).sheet in
       let back = row_back S.rows (names S) (length S.rows) in
       let same : R ≡ R' =
       sym (back R c.high c.fits) ∙ ap read_row (w ∙ sym w') ∙ back R' c'.high c'.fits in
       e ∙ ap (λ (y : Row). filling (drafted (read_draft f h) (with_row S y))) same ∙ sym e'
-  led_one (row.Constraint r) st st' (F, w, c, e) (F', w', c', e') =
+  led_one (option.Some (row.Constraint r)) st st' (F, w, c, e) (F', w', c', e') =
       let S = (read_draft f h).sheet in
       let back = fact_back (λ x. none) (plain_in f h) good (names S) in
       let written : write_fact F ≡ write_fact F' =
@@ -70,7 +70,7 @@ module _ (f : Filling) (h : Held) (o : Orderly f h) where
       let same : F ≡ F' =
       sym (back F c.fits) ∙ ap (read_fact (plain_in f h).rows) written ∙ back F' c'.fits in
       e ∙ ap (λ (y : Fact). filling (drafted (read_draft f h) (with_constraint S y))) same ∙ sym e'
-  led_one row.Other st st' e e' = absurd e
+  led_one option.None st st' e e' = absurd e
 
 -- ── steps ──────────────────────────────────────────────────────────────────
 

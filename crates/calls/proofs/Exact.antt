@@ -3,7 +3,7 @@ use Rattle.std.proofs.Common.{◌≡◌, ℕ, zero, suc, ◌+◌, ◌<◌, ◌�
 use Rattle.std.specs.List.{AllByRecursion}
 use Rattle.records.specs.declared.rows.Fact.{Fact as FactRow}
 use Rattle.records.specs.declared.rows.TermRow.{TermRow}
-use Rattle.rules.specs.Tuples as tuple
+use Rattle.records.specs.Tuples as tuple
 use Rattle.rules.specs.Facts.{in_fact, same_fact}
 use Rattle.rules.specs.Looked.{row_at}
 use Rattle.meaning.specs.Terms.{Op, variable, empty, single, union, inter, diff, transp, prod, join, closure}

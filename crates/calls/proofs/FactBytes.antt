@@ -3,6 +3,7 @@ use Rattle.std.proofs.Common.{◌≡◌, ℕ, zero, suc, ◌+◌, Bool, true, fa
 use mathlib.Core.Option.{none}
 use Rattle.records.specs.declared.rows.Fact.{Fact as FactRow}
 use Rattle.records.specs.declared.rows.ConstraintRow.{ConstraintRow}
+use Rattle.std.specs.declared.option.Option.TheVariants as option
 use Rattle.records.specs.declared.record.RowRecord.TheVariants as row
 use Rattle.records.specs.Reading.{row_in}
 use Rattle.meaning.specs.Terms.{Form, member, equal, same, Fact, FormFits}
@@ -37,7 +38,7 @@ fact_bytes_are F = go F.sign F.form
     go g (same s r) = refl
 
 -- and it is read as that
-pub fact_read : (F : Fact) → row_in (67 ∷ 78 ∷ fact_bytes F) ≡ row.Constraint (said_by (write_fact F))
+pub fact_read : (F : Fact) → row_in (67 ∷ 78 ∷ fact_bytes F) ≡ option.Some (row.Constraint (said_by (write_fact F)))
 fact_read F = ap (λ (l : List ℕ). row_in (67 ∷ 78 ∷ l)) (fact_bytes_are F)
 
 -- where a constraint is what is written of a fact, its bytes are the subject's

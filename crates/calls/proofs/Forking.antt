@@ -11,7 +11,8 @@ use Rattle.records.specs.declared.refusal.Refusal.{Refusal}
 use Rattle.records.specs.declared.refusal.Refusal.TheVariants.{NoRule, NotOnBranch, NotMet}
 use Rattle.rules.specs.declared.cited.Plan.{Plan}
 use Rattle.rules.specs.Rules.{alternative_of, alternatives_of, line_met}
-use Rattle.rules.specs.Looked.{rule_of, uses, looked, zeros_kept, cited_by, plan_q, plan_p, plan_rule, planned}
+use Rattle.records.specs.Kinds.{rule_of}
+use Rattle.rules.specs.Looked.{uses, looked, zeros_kept, cited_by, plan_q, plan_p, plan_rule, planned}
 use Rattle.calls.specs.RuleSteps.{cited_again}
 use Rattle.calls.proofs.Truth.{clash}
 

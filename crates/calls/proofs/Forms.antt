@@ -2,9 +2,9 @@
 use Rattle.std.proofs.Common.{◌≡◌, ℕ, Bool, true, false, cond, eqb, List, sym, refl, eqb-true}
 use Rattle.records.specs.declared.rows.Fact.{Fact as FactRow}
 use Rattle.records.specs.declared.rows.TermRow.{TermRow}
-use Rattle.rules.specs.declared.cited.Names.{Names}
-use Rattle.rules.specs.Tuples as tuple
-use Rattle.rules.specs.Tuples.{equal_names}
+use Rattle.records.specs.declared.tuple.Tuple.{Tuple}
+use Rattle.records.specs.Tuples as tuple
+use Rattle.records.specs.Tuples.{equal_names}
 use Rattle.rules.specs.Facts as fact
 use Rattle.rules.specs.Facts.{is_in, is_eq, is_same, fact_names, equal_facts}
 use Rattle.meaning.specs.Terms.{Form, member, equal, same, signed, pos, neg}
@@ -57,7 +57,7 @@ module _ (rows : List TermRow) (f : FactRow) where
   read_not_same g e = read_as false 3 g e
 
 -- equal parts read as equal forms
-pub names_are : (u v : Names) → equal_names u v ≡ true → u ≡ v
+pub names_are : (u v : Tuple) → equal_names u v ≡ true → u ≡ v
 names_are u v e =
     let r = and_split (eqb u.a v.a) _ e in
     let r₁ = and_split (eqb u.b v.b) _ r.1 in

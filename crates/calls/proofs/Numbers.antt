@@ -2,10 +2,10 @@
 use Rattle.std.proofs.Common.{◌≡◌, ℕ, Bool, true, false, cond, eqb, Some, Option as Maybe, sym, refl, ap, ◌∙◌, arith, eqb-true}
 use Rattle.records.specs.declared.rule.Rule.{Rule as RuleName}
 use Rattle.records.specs.declared.rule.Rule.TheVariants as R
-use Rattle.rules.specs.Looked.{number, rule_of}
+use Rattle.records.specs.Kinds.{rule_number, rule_of}
 
 -- a number leads to its rule
-pub named : (r : RuleName) → rule_of (number r) ≡ Some r
+pub named : (r : RuleName) → rule_of (rule_number r) ≡ Some r
 named R.InterUp = refl
 named R.InterDown = refl
 named R.UnionUp = refl
@@ -34,16 +34,16 @@ named R.LabelSame = refl
 
 -- one test of the table
 pick :
-    (b i : ℕ) (x r : RuleName) (rest : Maybe RuleName) → number x ≡ i → (rest ≡ Some r → number r ≡ b) →
-    cond (eqb b i) (Some x) rest ≡ Some r → number r ≡ b
+    (b i : ℕ) (x r : RuleName) (rest : Maybe RuleName) → rule_number x ≡ i → (rest ≡ Some r → rule_number r ≡ b) →
+    cond (eqb b i) (Some x) rest ≡ Some r → rule_number r ≡ b
 pick b i x r rest e f h = go (eqb b i) refl h
   where
-    go : (z : Bool) → eqb b i ≡ z → cond z (Some x) rest ≡ Some r → number r ≡ b
-    go true q h = let s : x ≡ r = cc in ap number (sym s) ∙ e ∙ sym (eqb-true b i q)
+    go : (z : Bool) → eqb b i ≡ z → cond z (Some x) rest ≡ Some r → rule_number r ≡ b
+    go true q h = let s : x ≡ r = cc in ap rule_number (sym s) ∙ e ∙ sym (eqb-true b i q)
     go false q h = f h
 
 -- and back
-pub numbered : (b : ℕ) (r : RuleName) → rule_of b ≡ Some r → number r ≡ b
+pub numbered : (b : ℕ) (r : RuleName) → rule_of b ≡ Some r → rule_number r ≡ b
 numbered b r =
     pick b 1 R.InterUp r _ refl (
     pick b 2 R.InterDown r _ refl (

@@ -1,5 +1,6 @@
 -- A row of the subject is read from its bytes as what is written of it (`row_read`), which fits where it does.
 use Rattle.std.proofs.Common.{◌≡◌, ℕ, ◌≤◌, List, [], ◌∷◌, length, get_or, take, sym, refl, ap, ◌∙◌, subst, arith}
+use Rattle.std.specs.declared.option.Option.TheVariants as option
 use Rattle.records.specs.declared.record.RowRecord.TheVariants as row
 use Rattle.records.specs.Reading.{row_in}
 use Rattle.meaning.specs.Terms.{
@@ -48,7 +49,7 @@ row_bytes_are R = go R.arity R.op
     go k (closure s) = refl
 
 -- and it is read as that
-pub row_read : (R : Row) → row_in (84 ∷ 77 ∷ row_bytes R) ≡ row.Term (write_row R)
+pub row_read : (R : Row) → row_in (84 ∷ 77 ∷ row_bytes R) ≡ option.Some (row.Term (write_row R))
 row_read R = ap (λ (l : List ℕ). row_in (84 ∷ 77 ∷ l)) (row_bytes_are R)
 
 -- where a row is what is written of it, its bytes are the subject's

@@ -6,7 +6,8 @@ use Rattle.records.specs.declared.rows.Fact.{Fact as FactRow}
 use Rattle.records.specs.declared.rule.Rule.{Rule as RuleName}
 use Rattle.rules.specs.Facts.{is_in}
 use Rattle.rules.specs.Rules.{tests_of}
-use Rattle.rules.specs.Looked.{number, uses, row_at, cited_with}
+use Rattle.records.specs.Kinds.{rule_number}
+use Rattle.rules.specs.Looked.{uses, row_at, cited_with}
 use Rattle.meaning.specs.Terms.{member, Fact, pos, Arity, FormFits}
 use Rattle.meaning.specs.Calculus.{Alt, Rule}
 use Rattle.calls.specs.Reading.{tuple_of, read_fact, Plain, read_sheet, FactFits}
@@ -27,7 +28,7 @@ Seen K P r =
 pub give :
     {K : ℕ → Option ℕ} {P : Plain} {r : RuleName} {n : ℕ} {o : Bool} {f g : FactRow} {t w : ℕ}
     {cited : List Fact} {alts : List Alt} →
-    Rule K (read_sheet P) n (number r) t w cited alts →
+    Rule K (read_sheet P) n (rule_number r) t w cited alts →
     From r o (read_fact P.rows f) (read_fact P.rows g) cited →
     Found K P n r o f g t w
 give rule from = record { cited = _; alts = _; rule = rule; from = from }

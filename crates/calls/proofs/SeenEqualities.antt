@@ -5,7 +5,7 @@ use borrow.Author.Tests.{not-true}
 use Rattle.std.proofs.lemmas.List.{set_split, set-get_or}
 use Rattle.records.specs.declared.rows.Fact.{Fact as FactRow}
 use Rattle.records.specs.declared.rule.Rule.TheVariants as R
-use Rattle.rules.specs.Tuples.{name_at}
+use Rattle.records.specs.Tuples.{name_at}
 use Rattle.rules.specs.Facts.{fact_names}
 use Rattle.rules.specs.Rules.{self_unequal, negated_by}
 use Rattle.rules.specs.Looked.{row_at, label_at}

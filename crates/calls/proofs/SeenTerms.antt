@@ -4,9 +4,10 @@ use mathlib.Core.Option.{Option}
 use Rattle.records.specs.declared.rows.Fact.{Fact as FactRow}
 use Rattle.records.specs.declared.rule.Rule.{Rule as RuleName}
 use Rattle.records.specs.declared.rule.Rule.TheVariants as R
-use Rattle.rules.specs.Tuples.{name_at}
+use Rattle.records.specs.Tuples.{name_at}
 use Rattle.rules.specs.Facts.{is_in, fact_names}
-use Rattle.rules.specs.Looked.{number, uses, row_at}
+use Rattle.records.specs.Kinds.{rule_number}
+use Rattle.rules.specs.Looked.{uses, row_at}
 use Rattle.meaning.specs.Terms.{Op, member, pos, names, Is, Arity, OpFits}
 use Rattle.meaning.specs.Calculus.{Alt, Rule, inter_up, inter_down, union_up, union_down, diff_up, diff_down}
 use Rattle.meaning.specs.Calculus.{single_up, single_down, empty_unsat, transp_up, transp_down}
@@ -42,8 +43,8 @@ module _ (K : ℕ → Option ℕ) (P : Plain) (good : Good P) where
   -- a rule that cites one member fact, of the term s
   one_in :
       {r : RuleName} {n : ℕ} {o : Bool} {f g : FactRow} {t w s : ℕ} {alts : List Alt} →
-      (uses r).p ≡ true → (uses r).q ≡ false → eqb (number r) 11 ≡ false → is_in f ≡ true → s ≡ f.term →
-      Rule K (read_sheet P) n (number r) t w (pos (member (tuple f) s) ∷ []) alts → Found K P n r o f g t w
+      (uses r).p ≡ true → (uses r).q ≡ false → eqb (rule_number r) 11 ≡ false → is_in f ≡ true → s ≡ f.term →
+      Rule K (read_sheet P) n (rule_number r) t w (pos (member (tuple f) s) ∷ []) alts → Found K P n r o f g t w
   one_in {f = f} {s = s} up uq ne e q rule = give rule (from_one up uq ne (listed P f (tuple f) s e refl q))
 
   pub inter_up_seen : Seen K P R.InterUp

@@ -3,7 +3,7 @@ use Rattle.std.proofs.Common.{◌≡◌, ℕ, zero, suc, ◌+◌, ◌-◌, ◌<�
 use Rattle.std.specs.List.{AllByRecursion}
 use Rattle.records.specs.declared.rows.Fact.{Fact as FactRow}
 use Rattle.records.specs.declared.rows.TermRow.{TermRow}
-use Rattle.rules.specs.Tuples as tuple
+use Rattle.records.specs.Tuples as tuple
 use Rattle.rules.specs.Facts.{no_row}
 use Rattle.rules.specs.Rules.{all_of}
 use Rattle.rules.specs.Looked.{row_at}

@@ -1,8 +1,8 @@
 -- Tuples in four fields do what lists of names do: reversed (`reversed_is`), joined, split, changed.
 use Rattle.std.proofs.Common.{◌≡◌, ℕ, zero, suc, ◌+◌, ◌-◌, ◌<◌, ◌≤◌, List, [], ◌∷◌, ◌++◌, reverse, length, get_or, take, sym, refl, ap, arith}
-use Rattle.rules.specs.Tuples as tuple
-use Rattle.rules.specs.Tuples.{reversed, joined, rest_from, name_at, name_put, fresh_names, before_all}
-use Rattle.rules.specs.Tuples.{pair_of}
+use Rattle.records.specs.Tuples as tuple
+use Rattle.records.specs.Tuples.{reversed, joined, rest_from, name_at, name_put, fresh_names, before_all}
+use Rattle.records.specs.Tuples.{pair_of}
 use Rattle.meaning.specs.Calculus.{up_from}
 use Rattle.calls.specs.Reading.{names_of, four}
 

@@ -7,7 +7,8 @@ use Rattle.rules.specs.declared.cited.Cited.{Cited}
 use Rattle.rules.specs.declared.cited.Alt.{Alt as AltRow}
 use Rattle.rules.specs.Facts.{no_fact}
 use Rattle.rules.specs.Rules.{line_met, alternative_of, alternatives_of}
-use Rattle.rules.specs.Looked.{number, uses, untouched, cited_with}
+use Rattle.records.specs.Kinds.{rule_number}
+use Rattle.rules.specs.Looked.{uses, untouched, cited_with}
 use Rattle.meaning.specs.Terms.{Fact}
 use Rattle.meaning.specs.Calculus.{Alt, Rule, up_from}
 use Rattle.calls.specs.Reading.{Plain, read_sheet, read_fact, write_fact}
@@ -33,7 +34,7 @@ pub record Passes
     (K : ℕ → Option ℕ) (P : Plain) (n r : ℕ) (o : Bool) (ps : List Fact) (f g : FactRow) (t w : ℕ)
     (alts : List AltRow) : Type 0 where
   pub rule : RuleName
-  pub numbered : number rule ≡ r
+  pub numbered : rule_number rule ≡ r
   pub p_use : (uses rule).p ≡ cites_p ps
   pub q_use : (uses rule).q ≡ cites_q r ps
   pub t_use : untouched (uses rule).t t ≡ true
@@ -64,10 +65,10 @@ pub data From (r : RuleName) (o : Bool) (f g : Fact) : List Fact → Type 0 wher
       (uses r).p ≡ false → (uses r).q ≡ false →
       From r o f g []
   from_one : {h : Fact} →
-      (uses r).p ≡ true → (uses r).q ≡ false → (number r == 11) ≡ false → h ≡ f →
+      (uses r).p ≡ true → (uses r).q ≡ false → (rule_number r == 11) ≡ false → h ≡ f →
       From r o f g (h ∷ [])
   from_twice : {h : Fact} →
-      (uses r).p ≡ true → (uses r).q ≡ true → number r ≡ 11 → o ≡ true → h ≡ f →
+      (uses r).p ≡ true → (uses r).q ≡ true → rule_number r ≡ 11 → o ≡ true → h ≡ f →
       From r o f g (h ∷ [])
   from_two : {h k : Fact} →
       (uses r).p ≡ true → (uses r).q ≡ true → h ≡ f → k ≡ g →
@@ -78,5 +79,5 @@ pub record Found
     (K : ℕ → Option ℕ) (P : Plain) (n : ℕ) (r : RuleName) (o : Bool) (f g : FactRow) (t w : ℕ) : Type 0 where
   pub cited : List Fact
   pub alts : List Alt
-  pub rule : Rule K (read_sheet P) n (number r) t w cited alts
+  pub rule : Rule K (read_sheet P) n (rule_number r) t w cited alts
   pub from : From r o (read_fact P.rows f) (read_fact P.rows g) cited

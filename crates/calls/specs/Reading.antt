@@ -5,9 +5,9 @@ use Rattle.std.specs.List.{AllByRecursion}
 use Rattle.std.proofs.Math.ListN.{get_elem?}
 use Rattle.records.specs.declared.rows.Fact.{Fact as FactRow}
 use Rattle.records.specs.declared.rows.TermRow.{TermRow}
-use Rattle.rules.specs.declared.cited.Names.{Names}
+use Rattle.records.specs.declared.tuple.Tuple.{Tuple}
 use Rattle.rules.specs.declared.cited.Alt.{Alt as AltRow}
-use Rattle.rules.specs.Tuples as tuple
+use Rattle.records.specs.Tuples as tuple
 use Rattle.rules.specs.Facts as fact
 use Rattle.rules.specs.Facts.{no_fact, in_fact, eq_fact, same_fact}
 use Rattle.rules.specs.Rules.{facts_of}
@@ -61,7 +61,7 @@ read_fact rows f = record { sign = f.positive; form = read_form rows f }
 -- ── writing ────────────────────────────────────────────────────────────────
 
 -- A tuple of up to four names in four fields; the others are zero.
-abbrev pub names_of : List ℕ → Names
+abbrev pub names_of : List ℕ → Tuple
 names_of u = tuple.names (slice_index u 0) (slice_index u 1) (slice_index u 2) (slice_index u 3)
 
 -- A form with its sign, written.
@@ -75,7 +75,7 @@ abbrev pub write_fact : Fact → FactRow
 write_fact f = write_form f.sign f.form
 
 -- The row with the operation number o, the arity k and these operands.
-abbrev pub row_of : ℕ → ℕ → Names → TermRow
+abbrev pub row_of : ℕ → ℕ → Tuple → TermRow
 row_of o k u = record { op = o; arity = k; a = u.a; b = u.b; c = u.c; d = u.d }
 
 -- An operation with the arity k, written.

@@ -21,9 +21,8 @@ use Rattle.records.specs.declared.rows.Header.{Header}
 use Rattle.records.specs.declared.rows.TermRow.{TermRow}
 use Rattle.records.specs.declared.rows.ConstraintRow.{ConstraintRow}
 use Rattle.records.specs.declared.rows.Fact.{Fact}
-use Rattle.records.specs.declared.record.RowRecord.{RowRecord}
 use Rattle.records.specs.declared.record.RowRecord.TheVariants as row
-use Rattle.records.specs.Reading.{header_in, row_in}
+use Rattle.records.specs.Reading.{RowRead, header_in, row_in}
 use Rattle.labels.specs.Kinds.{known_by}
 use Rattle.calls.specs.Stores.{Held, with_labels, with_terms, with_facts, enough}
 use Rattle.calls.specs.Tests.{row_ok, fact_ok}
@@ -174,17 +173,17 @@ constraint_added f h r =
     (not_added f h (IllConstraint f.constraints_in))
 
 -- A row by what is due: labels first, then terms, then constraints.
-abbrev pub row_added : (ℕ → Option ℕ) → Filling → Held → RowRecord → Added
-row_added K f h (row.Label c) =
+abbrev pub row_added : (ℕ → Option ℕ) → Filling → Held → RowRead → Added
+row_added K f h (option.Some (row.Label c)) =
     cond (nat_lt f.labels_in f.labels) (label_added K f h c) (not_added f h NotDue)
-row_added K f h (row.Term r) =
+row_added K f h (option.Some (row.Term r)) =
     cond (nat_lt f.labels_in f.labels) (not_added f h NotDue)
     (cond (nat_lt f.terms_in f.terms) (term_added f h r) (not_added f h NotDue))
-row_added K f h (row.Constraint r) =
+row_added K f h (option.Some (row.Constraint r)) =
     cond (nat_lt f.labels_in f.labels) (not_added f h NotDue)
     (cond (nat_lt f.terms_in f.terms) (not_added f h NotDue)
     (cond (nat_lt f.constraints_in f.constraints) (constraint_added f h r) (not_added f h NotDue)))
-row_added K f h row.Other = not_added f h NotDue
+row_added K f h option.None = not_added f h NotDue
 
 -- The call add.
 abbrev pub add_of : (ℕ → Option ℕ) → Filling → Held → List ℕ → Added

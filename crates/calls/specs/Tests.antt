@@ -2,7 +2,7 @@
 use Rattle.std.specs.Prelude.{ℕ, ◌+◌, Bool, false, cond, ◌&&◌, List, [], ◌∷◌, length, ◌==◌, nat_le, nat_lt}
 use Rattle.records.specs.declared.rows.Fact.{Fact as FactRow}
 use Rattle.records.specs.declared.rows.TermRow.{TermRow}
-use Rattle.rules.specs.declared.cited.Names.{Names}
+use Rattle.records.specs.declared.tuple.Tuple.{Tuple}
 use Rattle.rules.specs.Facts.{fact_names, row_names}
 use Rattle.rules.specs.Rules.{all_of}
 use Rattle.rules.specs.Looked.{row_at}
@@ -12,7 +12,7 @@ abbrev pub place_ok : ℕ → ℕ → ℕ → ℕ → Bool
 place_ok n k i e = cond (nat_lt i k) (nat_lt e n) (e == 0)
 
 -- All four places do.
-abbrev pub places : ℕ → ℕ → Names → List Bool
+abbrev pub places : ℕ → ℕ → Tuple → List Bool
 places n k u =
     place_ok n k 0 u.a ∷ place_ok n k 1 u.b ∷ place_ok n k 2 u.c ∷ place_ok n k 3 u.d ∷ []
 

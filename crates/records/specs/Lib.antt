@@ -1,3 +1,5 @@
+pub mod Kinds
 pub mod Reading
 pub mod Refusals
+pub mod Tuples
 pub mod Verdicts

@@ -16,10 +16,10 @@ pub data Move : Type 0 where
   other : Move
 
 -- the code's own answer, with the bytes that it borrows
-abbrev pub seen : StepRecord → Move
-seen (code.Rule s) = rule s
-seen (code.Model n r) = model n r.now
-seen code.Other = other
+abbrev pub seen : Option StepRecord → Move
+seen (Some (code.Rule s)) = rule s
+seen (Some (code.Model n r)) = model n r.now
+seen None = other
 
 -- byte i of a record
 abbrev pub byte : List ℕ → ℕ → ℕ
@@ -81,12 +81,16 @@ step_of bs =
 abbrev pub header_in : List ℕ → Option Header
 header_in bs = cond (whole 7 83 72 bs) (Some (header_of bs)) None
 
+-- what reading a row gives: nothing where the bytes are none
+abbrev pub RowRead : Type 0
+RowRead = Option RowRecord
+
 -- LB with 6 bytes, TM with 8 and CN with 9 are rows
-abbrev pub row_in : List ℕ → RowRecord
+abbrev pub row_in : List ℕ → RowRead
 row_in bs =
-    cond (whole 6 76 66 bs) (row.Label (code_of bs))
-    (cond (whole 8 84 77 bs) (row.Term (term_of bs))
-    (cond (whole 9 67 78 bs) (row.Constraint (constraint_of bs)) row.Other))
+    cond (whole 6 76 66 bs) (Some (row.Label (code_of bs)))
+    (cond (whole 8 84 77 bs) (Some (row.Term (term_of bs)))
+    (cond (whole 9 67 78 bs) (Some (row.Constraint (constraint_of bs))) None))
 
 -- ST with 9 bytes is a step by a rule, MD with 3 or more is a model: its count, and what comes after
 abbrev pub step_in : List ℕ → Move

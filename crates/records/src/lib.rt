@@ -6,10 +6,12 @@ ghost use Rattle.records.specs.Reading.{header_in, row_in, step_in, seen, code_f
 ghost use Rattle.records.specs.Refusals.{number_of, detail_of, room_number};
 ghost use Rattle.records.specs.Verdicts.{reached_by};
 
+pub mod kinds;
 pub mod record;
 pub mod refusal;
 pub mod rows;
 pub mod rule;
+pub mod tuple;
 pub mod verdict;
 
 use record::{RowRecord, StepRecord};
@@ -34,20 +36,20 @@ pub fn read_header(bytes: &[u8]) -> Option<Header>
 }
 
 // The row that these bytes are, if they are one.
-pub fn read_row(bytes: &[u8]) -> RowRecord
+pub fn read_row(bytes: &[u8]) -> Option<RowRecord>
     ensures { result ≡ row_in bytes.now }
 {
     match bytes {
-        [b'L', b'B', a, b, c, d] => RowRecord::Label(code_of(*a, *b, *c, *d)),
-        [b'T', b'M', op, arity, a, b, c, d] => RowRecord::Term(TermRow {
+        [b'L', b'B', a, b, c, d] => Some(RowRecord::Label(code_of(*a, *b, *c, *d))),
+        [b'T', b'M', op, arity, a, b, c, d] => Some(RowRecord::Term(TermRow {
             op: *op,
             arity: *arity,
             a: *a,
             b: *b,
             c: *c,
             d: *d,
-        }),
-        [b'C', b'N', form, sign, term, a, b, c, d] => RowRecord::Constraint(ConstraintRow {
+        })),
+        [b'C', b'N', form, sign, term, a, b, c, d] => Some(RowRecord::Constraint(ConstraintRow {
             form: *form,
             sign: *sign,
             term: *term,
@@ -55,25 +57,25 @@ pub fn read_row(bytes: &[u8]) -> RowRecord
             b: *b,
             c: *c,
             d: *d,
-        }),
-        _ => RowRecord::Other,
+        })),
+        _ => None,
     }
 }
 
 // The step that these bytes are, if they are one; a model's count is not yet held against its bytes.
-pub fn read_step(bytes: &[u8]) -> StepRecord<'_>
+pub fn read_step(bytes: &[u8]) -> Option<StepRecord<'_>>
     ensures { seen result ≡ step_in bytes.now }
 {
     match bytes {
-        [b'S', b'T', rule, p_high, p_low, q_high, q_low, t, w] => StepRecord::Rule(Step {
+        [b'S', b'T', rule, p_high, p_low, q_high, q_low, t, w] => Some(StepRecord::Rule(Step {
             rule: *rule,
-            p: u16::from(*p_high) * 256 + u16::from(*p_low),
-            q: u16::from(*q_high) * 256 + u16::from(*q_low),
+            p: u16::from_be_bytes([*p_high, *p_low]),
+            q: u16::from_be_bytes([*q_high, *q_low]),
             t: *t,
             w: *w,
-        }),
-        [b'M', b'D', count, rest @ ..] => StepRecord::Model(*count, rest),
-        _ => StepRecord::Other,
+        })),
+        [b'M', b'D', count, rest @ ..] => Some(StepRecord::Model(*count, rest)),
+        _ => None,
     }
 }
 
@@ -81,7 +83,7 @@ pub fn read_step(bytes: &[u8]) -> StepRecord<'_>
 pub fn code_of(a: u8, b: u8, c: u8, d: u8) -> u32
     ensures { result ≡ code_from a b c d }
 {
-    ((u32::from(a) * 256 + u32::from(b)) * 256 + u32::from(c)) * 256 + u32::from(d)
+    u32::from_be_bytes([a, b, c, d])
 }
 
 impl Room {
@@ -89,11 +91,7 @@ impl Room {
     fn detail(self) -> u8
         ensures { result ≡ room_number self }
     {
-        match self {
-            Room::Names => 1,
-            Room::Facts => 2,
-            Room::Forks => 3,
-        }
+        self as u8
     }
 }
 

@@ -1,7 +1,7 @@
 use super::rows::{ConstraintRow, Step, TermRow};
 
 // What the record of a row says, by its mark and its length.
-#[derive(Clone, Copy)]
+#[derive(Clone, Copy, Debug, PartialEq, Eq)]
 pub enum RowRecord {
     // LB, with its code
     Label(u32),
@@ -9,17 +9,13 @@ pub enum RowRecord {
     Term(TermRow),
     // CN
     Constraint(ConstraintRow),
-    // anything else
-    Other,
 }
 
 // What the record of a step says, by its mark and its length.
-#[derive(Clone, Copy)]
+#[derive(Clone, Copy, Debug, PartialEq, Eq)]
 pub enum StepRecord<'a> {
     // ST
     Rule(Step),
     // MD, with its count and whatever bytes come after it
     Model(u8, &'a [u8]),
-    // anything else
-    Other,
 }

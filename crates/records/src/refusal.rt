@@ -1,6 +1,6 @@
 // Why a call is turned down. Each case has a number and a detail (`Refusals` in specs/); docs/REFUSALS.md
 // says where each is checked and in which order.
-#[derive(Clone, Copy)]
+#[derive(Clone, Copy, Debug, PartialEq, Eq)]
 pub enum Refusal {
     // 1: a lent store is too short.
     StoresShort,
@@ -55,9 +55,9 @@ pub enum Refusal {
 }
 
 // What there is no room for.
-#[derive(Clone, Copy)]
+#[derive(Clone, Copy, Debug, PartialEq, Eq)]
 pub enum Room {
-    Names,
-    Facts,
-    Forks,
+    Names = 1,
+    Facts = 2,
+    Forks = 3,
 }

@@ -1,5 +1,10 @@
+ghost use Rattle.std.specs.Prelude.{◌≡◌, ◌==◌};
+ghost use Rattle.records.specs.Kinds.{operation_number, form_number};
+
+use super::kinds::{Form, Operation};
+
 // A header: the kind's letter, and how many labels, free names, terms and constraints the sheet has.
-#[derive(Clone, Copy)]
+#[derive(Clone, Copy, Debug, Default, PartialEq, Eq)]
 pub struct Header {
     pub letter: u8,
     pub labels: u8,
@@ -9,7 +14,7 @@ pub struct Header {
 }
 
 // A term: its operation, its arity, and its operands.
-#[derive(Clone, Copy)]
+#[derive(Clone, Copy, Debug, Default, PartialEq, Eq)]
 pub struct TermRow {
     pub op: u8,
     pub arity: u8,
@@ -19,8 +24,17 @@ pub struct TermRow {
     pub d: u8,
 }
 
+impl TermRow {
+    // Whether the row has this operation.
+    pub fn is(self, operation: Operation) -> bool
+        ensures { result ≡ (self.op == operation_number operation) }
+    {
+        self.op == operation as u8
+    }
+}
+
 // A constraint as its record has it, with the sign a byte.
-#[derive(Clone, Copy)]
+#[derive(Clone, Copy, Debug, Default, PartialEq, Eq)]
 pub struct ConstraintRow {
     pub form: u8,
     pub sign: u8,
@@ -33,7 +47,7 @@ pub struct ConstraintRow {
 
 // A fact, and so a constraint that was granted. Form 1: the names a, b, .. are in the term; form 2: a and b
 // are equal; form 3: the term equals the term numbered a.
-#[derive(Clone, Copy)]
+#[derive(Clone, Copy, Debug, Default, PartialEq, Eq)]
 pub struct Fact {
     pub form: u8,
     pub positive: bool,
@@ -44,8 +58,17 @@ pub struct Fact {
     pub d: u8,
 }
 
+impl Fact {
+    // Whether the fact has this form.
+    pub fn is(self, form: Form) -> bool
+        ensures { result ≡ (self.form == form_number form) }
+    {
+        self.form == form as u8
+    }
+}
+
 // The fields of a step: the rule's number, two facts, and two more that a rule may mention.
-#[derive(Clone, Copy)]
+#[derive(Clone, Copy, Debug, Default, PartialEq, Eq)]
 pub struct Step {
     pub rule: u8,
     pub p: u16,

@@ -1,5 +1,5 @@
 // Where a trial stands.
-#[derive(Clone, Copy)]
+#[derive(Clone, Copy, Debug, PartialEq, Eq)]
 pub enum Verdict {
     // Steps may still come.
     Undecided,

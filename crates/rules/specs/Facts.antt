@@ -2,9 +2,9 @@
 use Rattle.std.specs.Prelude.{ℕ, Bool, true, false, cond, ◌&&◌, ◌==◌}
 use Rattle.records.specs.declared.rows.Fact.{Fact}
 use Rattle.records.specs.declared.rows.TermRow.{TermRow}
-use Rattle.rules.specs.declared.cited.Names.{Names}
+use Rattle.records.specs.declared.tuple.Tuple.{Tuple}
 use Rattle.rules.specs.declared.cited.Alt.{Alt}
-use Rattle.rules.specs.Tuples.{names, equal_names}
+use Rattle.records.specs.Tuples.{names, equal_names}
 
 -- a positive fact that a tuple is in a term
 abbrev pub is_in : Fact → Bool
@@ -19,15 +19,15 @@ abbrev pub is_same : Fact → Bool
 is_same f = f.form == 3 && f.positive
 
 -- the names of a fact
-abbrev pub fact_names : Fact → Names
+abbrev pub fact_names : Fact → Tuple
 fact_names f = names f.a f.b f.c f.d
 
 -- the names of a singleton's row
-abbrev pub row_names : TermRow → Names
+abbrev pub row_names : TermRow → Tuple
 row_names r = names r.a r.b r.c r.d
 
 -- the fact that the tuple u is in term t, or is not
-abbrev pub in_fact : Bool → Names → ℕ → Fact
+abbrev pub in_fact : Bool → Tuple → ℕ → Fact
 in_fact g u t =
     record { form = 1; positive = g; term = t; a = u.a; b = u.b; c = u.c; d = u.d }
 
@@ -73,7 +73,7 @@ abbrev pub eq_pos : ℕ → ℕ → Fact
 eq_pos x y = eq_fact true x y
 
 -- one equality for each of k places
-abbrev pub equalities_of : ℕ → Names → Names → Alt
+abbrev pub equalities_of : ℕ → Tuple → Tuple → Alt
 equalities_of k u v =
     cond (k == 1) (one_of (eq_pos u.a v.a))
     (cond (k == 2) (two_of 0 (eq_pos u.a v.a) (eq_pos u.b v.b))

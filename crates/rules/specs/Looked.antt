@@ -38,76 +38,12 @@ use Rattle.records.specs.declared.refusal.Refusal.{Refusal}
 use Rattle.records.specs.declared.refusal.Refusal.TheVariants.{NoRule, NotOnBranch, NotMet}
 use Rattle.rules.specs.declared.cited.Cited.{Cited}
 use Rattle.rules.specs.declared.cited.Plan.{Plan}
+use Rattle.rules.specs.declared.cited.Uses.{Uses}
+use Rattle.records.specs.Kinds.{rule_of}
 use Rattle.rules.specs.Facts.{no_fact, no_row}
 use Rattle.rules.specs.Rules.{line_met}
 
--- ── rules and their numbers ────────────────────────────────────────────────
-
--- the number of each rule
-abbrev pub number : Rule → ℕ
-number InterUp = 1
-number InterDown = 2
-number UnionUp = 3
-number UnionDown = 4
-number DiffUp = 5
-number DiffDown = 6
-number SingleUp = 7
-number SingleDown = 8
-number EmptyUnsat = 9
-number SetDiseq = 10
-number EqUnsat = 11
-number TranspUp = 12
-number TranspDown = 13
-number JoinUp = 14
-number JoinDown = 15
-number ProdUp = 16
-number ProdDown = 17
-number ClosUpOne = 18
-number ClosUpTwo = 19
-number ClosDown = 20
-number Sym = 21
-number SwapName = 22
-number SwapTerm = 23
-number LabelUnsat = 24
-number LabelSame = 25
-
--- the rule with this number, if there is one
-abbrev pub rule_of : ℕ → Option Rule
-rule_of b =
-    cond (b == 1) (Some InterUp)
-    (cond (b == 2) (Some InterDown)
-    (cond (b == 3) (Some UnionUp)
-    (cond (b == 4) (Some UnionDown)
-    (cond (b == 5) (Some DiffUp)
-    (cond (b == 6) (Some DiffDown)
-    (cond (b == 7) (Some SingleUp)
-    (cond (b == 8) (Some SingleDown)
-    (cond (b == 9) (Some EmptyUnsat)
-    (cond (b == 10) (Some SetDiseq)
-    (cond (b == 11) (Some EqUnsat)
-    (cond (b == 12) (Some TranspUp)
-    (cond (b == 13) (Some TranspDown)
-    (cond (b == 14) (Some JoinUp)
-    (cond (b == 15) (Some JoinDown)
-    (cond (b == 16) (Some ProdUp)
-    (cond (b == 17) (Some ProdDown)
-    (cond (b == 18) (Some ClosUpOne)
-    (cond (b == 19) (Some ClosUpTwo)
-    (cond (b == 20) (Some ClosDown)
-    (cond (b == 21) (Some Sym)
-    (cond (b == 22) (Some SwapName)
-    (cond (b == 23) (Some SwapTerm)
-    (cond (b == 24) (Some LabelUnsat)
-    (cond (b == 25) (Some LabelSame) None))))))))))))))))))))))))
-
 -- ── the fields that a rule mentions ────────────────────────────────────────
-
--- whether a rule mentions p, q, t and w
-pub record Uses : Type 0 where
-  pub p : Bool
-  pub q : Bool
-  pub t : Bool
-  pub w : Bool
 
 -- the four answers together
 abbrev pub use_of : Bool → Bool → Bool → Bool → Uses

@@ -31,8 +31,8 @@ use Rattle.records.specs.declared.rule.Rule.TheVariants.{
 }
 use Rattle.rules.specs.declared.cited.Cited.{Cited}
 use Rattle.rules.specs.declared.cited.Alt.{Alt}
-use Rattle.rules.specs.Tuples.{equal_names, reversed, joined, rest_from, name_at, name_put}
-use Rattle.rules.specs.Tuples.{fresh_names, before_all, pair_of}
+use Rattle.records.specs.Tuples.{equal_names, reversed, joined, rest_from, name_at, name_put}
+use Rattle.records.specs.Tuples.{fresh_names, before_all, pair_of}
 use Rattle.rules.specs.Facts.{is_in, is_eq, is_same, fact_names, row_names, in_fact, eq_fact, same_fact}
 use Rattle.rules.specs.Facts.{equal_facts, alt, no_alt, one_of, two_of, equalities_of}
 

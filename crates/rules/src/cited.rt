@@ -1,13 +1,13 @@
 use records::rows::{Fact, TermRow};
 use records::rule::Rule;
 
-// A tuple of one to four names; places past its arity are zero.
-#[derive(Clone, Copy)]
-pub struct Names {
-    pub a: u8,
-    pub b: u8,
-    pub c: u8,
-    pub d: u8,
+// Which fields of a step a rule mentions.
+#[derive(Clone, Copy, Debug, Default, PartialEq, Eq)]
+pub struct Uses {
+    pub p: bool,
+    pub q: bool,
+    pub t: bool,
+    pub w: bool,
 }
 
 // All that a rule's line asks of a step: whether p and q are one number, the facts that they number, the
@@ -35,7 +35,7 @@ pub struct Plan {
 }
 
 // One alternative: how many fresh names it brings, and the first `count` of four facts.
-#[derive(Clone, Copy)]
+#[derive(Clone, Copy, Default)]
 pub struct Alt {
     pub fresh: u8,
     pub count: u8,

@@ -1,53 +1,54 @@
 // Facts told by their form, taken apart and made, and the alternatives that one or more of them are.
 ghost use Rattle.std.specs.Prelude.{◌≡◌};
 ghost use Rattle.rules.specs.Facts.{is_in, is_eq, is_same, fact_names, row_names, in_fact, eq_fact, same_fact};
-ghost use Rattle.rules.specs.Facts.{no_fact, equal_facts, no_alt, one_of, two_of, equalities_of};
+ghost use Rattle.rules.specs.Facts.{equal_facts, one_of, two_of, equalities_of};
 
-use super::cited::{Alt, Names};
-use super::tuple::{equal_names, four};
+use super::cited::Alt;
+use records::kinds::Form;
 use records::rows::{Fact, TermRow};
+use records::tuple::Tuple;
 
 // A positive fact that a tuple is in a term.
 pub(crate) fn is_in(f: Fact) -> bool
     ensures { result ≡ is_in f }
 {
-    f.form == 1 && f.positive
+    f.is(Form::Member) && f.positive
 }
 
 // A positive equality of names.
 pub(crate) fn is_eq(f: Fact) -> bool
     ensures { result ≡ is_eq f }
 {
-    f.form == 2 && f.positive
+    f.is(Form::EqualNames) && f.positive
 }
 
 // A positive equality of terms.
 pub(crate) fn is_same(f: Fact) -> bool
     ensures { result ≡ is_same f }
 {
-    f.form == 3 && f.positive
+    f.is(Form::EqualTerms) && f.positive
 }
 
 // The names of a fact.
-pub(crate) fn tuple_of(f: Fact) -> Names
+pub(crate) fn tuple_of(f: Fact) -> Tuple
     ensures { result ≡ fact_names f }
 {
-    four(f.a, f.b, f.c, f.d)
+    Tuple::new(f.a, f.b, f.c, f.d)
 }
 
 // The names of a singleton's row.
-pub(crate) fn tuple_in(row: TermRow) -> Names
+pub(crate) fn tuple_in(row: TermRow) -> Tuple
     ensures { result ≡ row_names row }
 {
-    four(row.a, row.b, row.c, row.d)
+    Tuple::new(row.a, row.b, row.c, row.d)
 }
 
 // The fact that the tuple u is in term t, or is not.
-pub(crate) fn in_fact(positive: bool, u: Names, t: u8) -> Fact
+pub(crate) fn in_fact(positive: bool, u: Tuple, t: u8) -> Fact
     ensures { result ≡ in_fact positive u t }
 {
     Fact {
-        form: 1,
+        form: Form::Member as u8,
         positive,
         term: t,
         a: u.a,
@@ -62,13 +63,11 @@ pub(crate) fn eq_fact(positive: bool, a: u8, b: u8) -> Fact
     ensures { result ≡ eq_fact positive a b }
 {
     Fact {
-        form: 2,
+        form: Form::EqualNames as u8,
         positive,
-        term: 0,
         a,
         b,
-        c: 0,
-        d: 0,
+        ..Fact::default()
     }
 }
 
@@ -77,50 +76,19 @@ pub(crate) fn same_fact(positive: bool, s: u8, r: u8) -> Fact
     ensures { result ≡ same_fact positive s r }
 {
     Fact {
-        form: 3,
+        form: Form::EqualTerms as u8,
         positive,
         term: s,
         a: r,
-        b: 0,
-        c: 0,
-        d: 0,
+        ..Fact::default()
     }
 }
 
-// No fact: it has no form.
-pub(crate) fn no_fact() -> Fact
-    ensures { result ≡ no_fact }
-{
-    Fact {
-        form: 0,
-        positive: false,
-        term: 0,
-        a: 0,
-        b: 0,
-        c: 0,
-        d: 0,
-    }
-}
-
-// The same form of the same parts, whatever the signs.
+// The same form of the same parts, whatever the signs: `==` compares the signs too.
 pub(crate) fn equal_facts(f: Fact, g: Fact) -> bool
     ensures { result ≡ equal_facts f g }
 {
-    f.form == g.form && f.term == g.term && equal_names(tuple_of(f), tuple_of(g))
-}
-
-// The alternative without facts.
-pub(crate) fn no_alt() -> Alt
-    ensures { result ≡ no_alt }
-{
-    Alt {
-        fresh: 0,
-        count: 0,
-        first: no_fact(),
-        second: no_fact(),
-        third: no_fact(),
-        fourth: no_fact(),
-    }
+    f.form == g.form && f.term == g.term && tuple_of(f) == tuple_of(g)
 }
 
 // The alternative of one fact, without fresh names.
@@ -128,12 +96,9 @@ pub(crate) fn one_of(f: Fact) -> Alt
     ensures { result ≡ one_of f }
 {
     Alt {
-        fresh: 0,
         count: 1,
         first: f,
-        second: no_fact(),
-        third: no_fact(),
-        fourth: no_fact(),
+        ..Alt::default()
     }
 }
 
@@ -146,25 +111,23 @@ pub(crate) fn two_of(fresh: u8, f: Fact, g: Fact) -> Alt
         count: 2,
         first: f,
         second: g,
-        third: no_fact(),
-        fourth: no_fact(),
+        ..Alt::default()
     }
 }
 
 // One equality for each of k places.
-pub(crate) fn equalities_of(k: u8, u: Names, v: Names) -> Alt
+pub(crate) fn equalities_of(k: u8, u: Tuple, v: Tuple) -> Alt
     ensures { result ≡ equalities_of k u v }
 {
     match k {
         1 => one_of(eq_fact(true, u.a, v.a)),
         2 => two_of(0, eq_fact(true, u.a, v.a), eq_fact(true, u.b, v.b)),
         3 => Alt {
-            fresh: 0,
             count: 3,
             first: eq_fact(true, u.a, v.a),
             second: eq_fact(true, u.b, v.b),
             third: eq_fact(true, u.c, v.c),
-            fourth: no_fact(),
+            ..Alt::default()
         },
         _ => Alt {
             fresh: 0,

@@ -5,111 +5,52 @@
 ghost use Rattle.std.specs.Prelude.{◌≡◌, ◌≤◌};
 ghost use Rattle.rules.specs.Rules.{line_met, self_unequal, negated_by, has_place, has_side, labels_are};
 ghost use Rattle.rules.specs.Rules.{alternative_of, alternatives_of};
-ghost use Rattle.rules.specs.Looked.{rule_of, uses, untouched, zeros_kept};
+ghost use Rattle.rules.specs.Looked.{uses, untouched, zeros_kept};
 
 pub mod cited;
 mod fact;
 pub mod outcome;
-mod tuple;
 
-use cited::{Alt, Cited};
+use cited::{Alt, Cited, Uses};
 use fact::{
-    eq_fact, equal_facts, equalities_of, in_fact, is_eq, is_in, is_same, no_alt, one_of, same_fact,
+    eq_fact, equal_facts, equalities_of, in_fact, is_eq, is_in, is_same, one_of, same_fact,
     tuple_in, tuple_of, two_of,
 };
+use records::kinds::{Form, Operation};
 use records::rows::{Fact, Step};
 use records::rule::Rule;
-use tuple::{
-    before_all, equal_names, fresh_names, join, name_at, name_put, pair_of, rest_from, reverse,
-};
+use records::tuple::Tuple;
 
 // ── rules and their fields ──
 
-// The rule with this number, if there is one.
-pub fn read_rule(number: u8) -> Option<Rule>
-    ensures { result ≡ rule_of number }
+// The fields that the rule mentions.
+pub fn uses(rule: Rule) -> Uses
+    ensures { result ≡ uses rule }
 {
-    match number {
-        1 => Some(Rule::InterUp),
-        2 => Some(Rule::InterDown),
-        3 => Some(Rule::UnionUp),
-        4 => Some(Rule::UnionDown),
-        5 => Some(Rule::DiffUp),
-        6 => Some(Rule::DiffDown),
-        7 => Some(Rule::SingleUp),
-        8 => Some(Rule::SingleDown),
-        9 => Some(Rule::EmptyUnsat),
-        10 => Some(Rule::SetDiseq),
-        11 => Some(Rule::EqUnsat),
-        12 => Some(Rule::TranspUp),
-        13 => Some(Rule::TranspDown),
-        14 => Some(Rule::JoinUp),
-        15 => Some(Rule::JoinDown),
-        16 => Some(Rule::ProdUp),
-        17 => Some(Rule::ProdDown),
-        18 => Some(Rule::ClosUpOne),
-        19 => Some(Rule::ClosUpTwo),
-        20 => Some(Rule::ClosDown),
-        21 => Some(Rule::Sym),
-        22 => Some(Rule::SwapName),
-        23 => Some(Rule::SwapTerm),
-        24 => Some(Rule::LabelUnsat),
-        25 => Some(Rule::LabelSame),
-        _ => None,
-    }
-}
-
-// Whether the rule mentions p.
-pub fn uses_p(rule: Rule) -> bool
-    ensures { result ≡ (uses rule).p }
-{
+    let fact = Uses {
+        p: true,
+        ..Uses::default()
+    };
+    let term = Uses {
+        t: true,
+        ..Uses::default()
+    };
     match rule {
-        Rule::SingleUp | Rule::LabelSame => false,
-        _ => true,
-    }
-}
-
-// Whether the rule mentions q.
-pub fn uses_q(rule: Rule) -> bool
-    ensures { result ≡ (uses rule).q }
-{
-    match rule {
-        Rule::InterUp
-        | Rule::EqUnsat
-        | Rule::JoinUp
-        | Rule::ProdUp
-        | Rule::ClosUpTwo
-        | Rule::SwapName
-        | Rule::SwapTerm => true,
-        _ => false,
-    }
-}
-
-// Whether the rule mentions t.
-fn uses_t(rule: Rule) -> bool
-    ensures { result ≡ (uses rule).t }
-{
-    match rule {
-        Rule::InterUp
-        | Rule::UnionUp
-        | Rule::DiffUp
-        | Rule::SingleUp
-        | Rule::TranspUp
-        | Rule::JoinUp
-        | Rule::ProdUp
-        | Rule::ClosUpOne
-        | Rule::LabelSame => true,
-        _ => false,
-    }
-}
-
-// Whether the rule mentions w.
-fn uses_w(rule: Rule) -> bool
-    ensures { result ≡ (uses rule).w }
-{
-    match rule {
-        Rule::SwapName | Rule::SwapTerm | Rule::LabelSame => true,
-        _ => false,
+        Rule::InterUp | Rule::JoinUp | Rule::ProdUp => Uses {
+            q: true,
+            t: true,
+            ..fact
+        },
+        Rule::EqUnsat | Rule::ClosUpTwo => Uses { q: true, ..fact },
+        Rule::UnionUp | Rule::DiffUp | Rule::TranspUp | Rule::ClosUpOne => Uses { t: true, ..fact },
+        Rule::SwapName | Rule::SwapTerm => Uses {
+            q: true,
+            w: true,
+            ..fact
+        },
+        Rule::SingleUp => term,
+        Rule::LabelSame => Uses { w: true, ..term },
+        _ => fact,
     }
 }
 
@@ -124,10 +65,11 @@ fn field(used: bool, x: u16) -> bool
 pub fn zeros(rule: Rule, x: Step) -> bool
     ensures { result ≡ zeros_kept rule x }
 {
-    field(uses_p(rule), x.p)
-        && field(uses_q(rule), x.q)
-        && field(uses_t(rule), x.t as u16)
-        && field(uses_w(rule), x.w as u16)
+    let uses = uses(rule);
+    field(uses.p, x.p)
+        && field(uses.q, x.q)
+        && field(uses.t, u16::from(x.t))
+        && field(uses.w, u16::from(x.w))
 }
 
 // ── lines ──
@@ -136,7 +78,8 @@ pub fn zeros(rule: Rule, x: Step) -> bool
 fn is_self_unequal(f: Fact) -> bool
     ensures { result ≡ self_unequal f }
 {
-    !f.positive && f.form == 2 && f.a == f.b || !f.positive && f.form == 3 && f.term == f.a
+    !f.positive && f.is(Form::EqualNames) && f.a == f.b
+        || !f.positive && f.is(Form::EqualTerms) && f.term == f.a
 }
 
 // The fact f is positive, and g is its exact negation.
@@ -150,24 +93,22 @@ fn is_negated_by(f: Fact, g: Fact) -> bool
 fn has_place(w: u8, k: u8, f: Fact) -> bool
     ensures { result ≡ has_place w k f }
 {
-    f.form == 1 && w < k || f.form == 2 && w < 2
+    f.is(Form::Member) && w < k || f.is(Form::EqualNames) && w < 2
 }
 
 // Term s stands in the fact at side w: 0 is its term, 1 the second of two terms.
 fn has_side(w: u8, s: u8, f: Fact) -> bool
     ensures { result ≡ has_side w s f }
 {
-    w == 0 && (f.form == 1 || f.form == 3) && f.term == s || w == 1 && f.form == 3 && f.a == s
+    w == 0 && (f.is(Form::Member) || f.is(Form::EqualTerms)) && f.term == s
+        || w == 1 && f.is(Form::EqualTerms) && f.a == s
 }
 
 // Whether the labels were found, and compared so.
 fn labels_are(found: Option<bool>, same: bool) -> bool
     ensures { result ≡ labels_are found same }
 {
-    match found {
-        Some(b) => b == same,
-        None => false,
-    }
+    found == Some(same)
 }
 
 // Whether the rule's line is met.
@@ -177,49 +118,49 @@ pub fn met(rule: Rule, c: Cited) -> bool
     match rule {
         Rule::InterUp => is_in(c.p)
             && is_in(c.q)
-            && equal_names(tuple_of(c.p), tuple_of(c.q))
-            && c.of_t.op == 4
+            && tuple_of(c.p) == tuple_of(c.q)
+            && c.of_t.is(Operation::Intersection)
             && c.of_t.a == c.p.term
             && c.of_t.b == c.q.term,
-        Rule::InterDown => is_in(c.p) && c.of_p.op == 4,
+        Rule::InterDown => is_in(c.p) && c.of_p.is(Operation::Intersection),
         Rule::UnionUp => is_in(c.p)
-            && c.of_t.op == 3
+            && c.of_t.is(Operation::Union)
             && (c.of_t.a == c.p.term || c.of_t.b == c.p.term),
-        Rule::UnionDown => is_in(c.p) && c.of_p.op == 3,
-        Rule::DiffUp => is_in(c.p) && c.of_t.op == 5 && c.of_t.a == c.p.term,
-        Rule::DiffDown => is_in(c.p) && c.of_p.op == 5,
-        Rule::SingleUp => c.of_t.op == 2,
-        Rule::SingleDown => is_in(c.p) && c.of_p.op == 2,
-        Rule::EmptyUnsat => is_in(c.p) && c.of_p.op == 1,
-        Rule::SetDiseq => c.p.form == 3 && !c.p.positive,
+        Rule::UnionDown => is_in(c.p) && c.of_p.is(Operation::Union),
+        Rule::DiffUp => is_in(c.p) && c.of_t.is(Operation::Difference) && c.of_t.a == c.p.term,
+        Rule::DiffDown => is_in(c.p) && c.of_p.is(Operation::Difference),
+        Rule::SingleUp => c.of_t.is(Operation::Single),
+        Rule::SingleDown => is_in(c.p) && c.of_p.is(Operation::Single),
+        Rule::EmptyUnsat => is_in(c.p) && c.of_p.is(Operation::Empty),
+        Rule::SetDiseq => c.p.is(Form::EqualTerms) && !c.p.positive,
         Rule::EqUnsat => c.one && is_self_unequal(c.p) || is_negated_by(c.p, c.q),
-        Rule::TranspUp => is_in(c.p) && c.of_t.op == 6 && c.of_t.a == c.p.term,
-        Rule::TranspDown => is_in(c.p) && c.of_p.op == 6,
+        Rule::TranspUp => is_in(c.p) && c.of_t.is(Operation::Transpose) && c.of_t.a == c.p.term,
+        Rule::TranspDown => is_in(c.p) && c.of_p.is(Operation::Transpose),
         Rule::JoinUp => is_in(c.p)
             && is_in(c.q)
-            && c.of_t.op == 8
+            && c.of_t.is(Operation::Join)
             && c.of_t.a == c.p.term
             && c.of_t.b == c.q.term
             && c.of_p.arity >= 1
-            && name_at(c.of_p.arity - 1, tuple_of(c.p)) == c.q.a,
-        Rule::JoinDown => is_in(c.p) && c.of_p.op == 8 && c.left >= 1,
+            && tuple_of(c.p).at(c.of_p.arity - 1) == c.q.a,
+        Rule::JoinDown => is_in(c.p) && c.of_p.is(Operation::Join) && c.left >= 1,
         Rule::ProdUp => is_in(c.p)
             && is_in(c.q)
-            && c.of_t.op == 7
+            && c.of_t.is(Operation::Product)
             && c.of_t.a == c.p.term
             && c.of_t.b == c.q.term,
-        Rule::ProdDown => is_in(c.p) && c.of_p.op == 7,
-        Rule::ClosUpOne => is_in(c.p) && c.of_t.op == 9 && c.of_t.a == c.p.term,
+        Rule::ProdDown => is_in(c.p) && c.of_p.is(Operation::Product),
+        Rule::ClosUpOne => is_in(c.p) && c.of_t.is(Operation::Closure) && c.of_t.a == c.p.term,
         Rule::ClosUpTwo => is_in(c.p)
             && is_in(c.q)
             && c.p.term == c.q.term
-            && c.of_p.op == 9
+            && c.of_p.is(Operation::Closure)
             && c.p.b == c.q.a,
-        Rule::ClosDown => is_in(c.p) && c.of_p.op == 9,
-        Rule::Sym => c.p.form == 2 || c.p.form == 3,
+        Rule::ClosDown => is_in(c.p) && c.of_p.is(Operation::Closure),
+        Rule::Sym => c.p.is(Form::EqualNames) || c.p.is(Form::EqualTerms),
         Rule::SwapName => is_eq(c.q)
             && has_place(c.w, c.of_p.arity, c.p)
-            && name_at(c.w, tuple_of(c.p)) == c.q.a,
+            && tuple_of(c.p).at(c.w) == c.q.a,
         Rule::SwapTerm => is_same(c.q) && has_side(c.w, c.q.term, c.p),
         Rule::LabelUnsat => is_eq(c.p) && labels_are(c.labels, false),
         Rule::LabelSame => labels_are(c.labels, true),
@@ -266,9 +207,9 @@ pub fn alternative(rule: Rule, c: Cited, n: u8, k: u8) -> Alt
         Rule::DiffDown => two_of(0, in_fact(true, u, c.of_p.a), in_fact(false, u, c.of_p.b)),
         Rule::SingleUp => one_of(in_fact(true, tuple_in(c.of_t), c.t)),
         Rule::SingleDown => equalities_of(c.of_p.arity, u, tuple_in(c.of_p)),
-        Rule::EmptyUnsat | Rule::EqUnsat | Rule::LabelUnsat => no_alt(),
+        Rule::EmptyUnsat | Rule::EqUnsat | Rule::LabelUnsat => Alt::default(),
         Rule::SetDiseq => {
-            let z = fresh_names(c.of_p.arity, n);
+            let z = Tuple::fresh(c.of_p.arity, n);
             if k == 0 {
                 two_of(
                     c.of_p.arity,
@@ -283,68 +224,64 @@ pub fn alternative(rule: Rule, c: Cited, n: u8, k: u8) -> Alt
                 )
             }
         }
-        Rule::TranspUp => one_of(in_fact(true, reverse(c.of_p.arity, u), c.t)),
-        Rule::TranspDown => one_of(in_fact(true, reverse(c.of_p.arity, u), c.of_p.a)),
+        Rule::TranspUp => one_of(in_fact(true, u.reversed(c.of_p.arity), c.t)),
+        Rule::TranspDown => one_of(in_fact(true, u.reversed(c.of_p.arity), c.of_p.a)),
         Rule::JoinUp => {
-            let i = if c.of_p.arity >= 1 {
-                c.of_p.arity - 1
-            } else {
-                0
-            };
-            one_of(in_fact(true, join(i, u, rest_from(1, tuple_of(c.q))), c.t))
+            let i = c.of_p.arity.saturating_sub(1);
+            one_of(in_fact(true, u.joined(i, tuple_of(c.q).rest_from(1)), c.t))
         }
         Rule::JoinDown => {
-            let i = if c.left >= 1 { c.left - 1 } else { 0 };
+            let i = c.left.saturating_sub(1);
             two_of(
                 1,
-                in_fact(true, join(i, u, pair_of(n, 0)), c.of_p.a),
-                in_fact(true, before_all(n, rest_from(i, u)), c.of_p.b),
+                in_fact(true, u.joined(i, Tuple::pair(n, 0)), c.of_p.a),
+                in_fact(true, u.rest_from(i).after(n), c.of_p.b),
             )
         }
-        Rule::ProdUp => one_of(in_fact(true, join(c.of_p.arity, u, tuple_of(c.q)), c.t)),
+        Rule::ProdUp => one_of(in_fact(true, u.joined(c.of_p.arity, tuple_of(c.q)), c.t)),
         Rule::ProdDown => two_of(
             0,
-            in_fact(true, join(c.left, u, pair_of(0, 0)), c.of_p.a),
-            in_fact(true, rest_from(c.left, u), c.of_p.b),
+            in_fact(true, u.joined(c.left, Tuple::default()), c.of_p.a),
+            in_fact(true, u.rest_from(c.left), c.of_p.b),
         ),
-        Rule::ClosUpTwo => one_of(in_fact(true, pair_of(c.p.a, c.q.b), c.p.term)),
+        Rule::ClosUpTwo => one_of(in_fact(true, Tuple::pair(c.p.a, c.q.b), c.p.term)),
         Rule::ClosDown => {
             if k == 0 {
                 one_of(in_fact(true, u, c.of_p.a))
             } else if k == 1 {
                 two_of(
                     1,
-                    in_fact(true, pair_of(c.p.a, n), c.of_p.a),
-                    in_fact(true, pair_of(n, c.p.b), c.of_p.a),
+                    in_fact(true, Tuple::pair(c.p.a, n), c.of_p.a),
+                    in_fact(true, Tuple::pair(n, c.p.b), c.of_p.a),
                 )
             } else {
                 Alt {
                     fresh: 2,
                     count: 4,
-                    first: in_fact(true, pair_of(c.p.a, n), c.of_p.a),
-                    second: in_fact(true, pair_of(n, n + 1), c.p.term),
-                    third: in_fact(true, pair_of(n + 1, c.p.b), c.of_p.a),
+                    first: in_fact(true, Tuple::pair(c.p.a, n), c.of_p.a),
+                    second: in_fact(true, Tuple::pair(n, n + 1), c.p.term),
+                    third: in_fact(true, Tuple::pair(n + 1, c.p.b), c.of_p.a),
                     fourth: eq_fact(false, n, n + 1),
                 }
             }
         }
         Rule::Sym => {
-            if c.p.form == 2 {
+            if c.p.is(Form::EqualNames) {
                 one_of(eq_fact(c.p.positive, c.p.b, c.p.a))
             } else {
                 one_of(same_fact(c.p.positive, c.p.a, c.p.term))
             }
         }
         Rule::SwapName => {
-            let v = name_put(c.w, u, c.q.b);
-            if c.p.form == 1 {
+            let v = u.with(c.w, c.q.b);
+            if c.p.is(Form::Member) {
                 one_of(in_fact(c.p.positive, v, c.p.term))
             } else {
                 one_of(eq_fact(c.p.positive, v.a, v.b))
             }
         }
         Rule::SwapTerm => {
-            if c.p.form == 1 {
+            if c.p.is(Form::Member) {
                 one_of(in_fact(c.p.positive, u, c.q.a))
             } else if c.w == 0 {
                 one_of(same_fact(c.p.positive, c.q.a, c.p.a))

@@ -76,10 +76,10 @@ impl Sheet {
             return Err(Refusal::StoresShort);
         }
         match read_row(bytes) {
-            RowRecord::Label(code) => self.add_label(kind, stores, code),
-            RowRecord::Term(row) => self.add_term(stores, row),
-            RowRecord::Constraint(row) => self.add_constraint(stores, row),
-            RowRecord::Other => Err(Refusal::NotDue),
+            Some(RowRecord::Label(code)) => self.add_label(kind, stores, code),
+            Some(RowRecord::Term(row)) => self.add_term(stores, row),
+            Some(RowRecord::Constraint(row)) => self.add_constraint(stores, row),
+            None => Err(Refusal::NotDue),
         }
     }
 

@@ -12,7 +12,7 @@ use records::refusal::Refusal;
 use records::rows::{Fact, Step};
 use records::rule::Rule;
 use rules::cited::{Cited, Plan};
-use rules::{met, read_rule, uses_p, uses_q, zeros};
+use rules::{met, uses, zeros};
 use stores::lent::Stores;
 
 impl Trial {
@@ -54,13 +54,12 @@ impl Trial {
             (rows_of (counts self.now) (held stores.now))
             (branch_facts (counts self.now) (held stores.now)) x }
     {
-        let Some(rule) = read_rule(x.rule) else {
-            return Err(Refusal::NoRule(x.rule));
-        };
-        let Some(f) = look(uses_p(rule), stores.facts, self.facts, x.p) else {
+        let rule = Rule::try_from(x.rule)?;
+        let uses = uses(rule);
+        let Some(f) = look(uses.p, stores.facts, self.facts, x.p) else {
             return Err(Refusal::NotOnBranch(x.p));
         };
-        let Some(g) = look(uses_q(rule), stores.facts, self.facts, x.q) else {
+        let Some(g) = look(uses.q, stores.facts, self.facts, x.q) else {
             return Err(Refusal::NotOnBranch(x.q));
         };
         let cited = self.cite(kind, stores, rule, x, f, g);

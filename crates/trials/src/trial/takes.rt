@@ -52,11 +52,11 @@ impl Trial {
             return Err(Refusal::StoresShort);
         }
         match read_step(bytes) {
-            StepRecord::Rule(x) => self.step_rule(kind, stores, x),
-            StepRecord::Model(count, representatives) => {
+            Some(StepRecord::Rule(x)) => self.step_rule(kind, stores, x),
+            Some(StepRecord::Model(count, representatives)) => {
                 self.step_model(kind, stores, count, representatives)
             }
-            StepRecord::Other => self.deny_other(),
+            None => self.deny_other(),
         }
     }
 
