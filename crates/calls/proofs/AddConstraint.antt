@@ -18,7 +18,8 @@ use Rattle.calls.specs.Reading.{read_fact, write_fact, read_sheet, FactFits, Goo
 use Rattle.calls.specs.Tests.{fact_ok}
 use Rattle.calls.specs.Granted.{Passed}
 use Rattle.calls.specs.Stores.{Held, with_facts}
-use Rattle.calls.specs.Sheets.{Filling, one_constraint, fact_said, constraint_added, row_added, not_added}
+use Rattle.calls.specs.Sheets.{Filling, one_constraint, constraint_added, row_added, not_added}
+use Rattle.records.specs.Reading.{fact_said}
 use Rattle.calls.specs.Views.{Orderly, plain_in, read_draft}
 use Rattle.calls.proofs.Truth.{and_split, and_true}
 use Rattle.calls.proofs.Bytes.{RowTold, constraint_bytes}

@@ -15,7 +15,8 @@ use Rattle.meaning.specs.Mixes.{verdict_there}
 use Rattle.meaning.specs.Mixes as subject
 use Rattle.calls.specs.Reading.{read_row, write_row, read_fact, write_fact, Good}
 use Rattle.calls.specs.Stores.{Held}
-use Rattle.calls.specs.Sheets.{Filling, Counts, fact_said}
+use Rattle.calls.specs.Sheets.{Filling, Counts}
+use Rattle.records.specs.Reading.{fact_said}
 use Rattle.calls.specs.RuleSteps.{branch_facts}
 use Rattle.calls.specs.Trials.{plain_of, branch_of}
 use Rattle.calls.specs.Views.{Orderly, Whole, Live, LiveBy, plain_in, read_draft, state_of, state_by, verdict_by, read_trial}

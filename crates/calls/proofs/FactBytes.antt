@@ -10,7 +10,7 @@ use Rattle.meaning.specs.Terms.{Form, member, equal, same, Fact, FormFits}
 use Rattle.meaning.specs.Calculus.{alt}
 use Rattle.meaning.specs.Mixes.{sign_byte, form_bytes, fact_bytes}
 use Rattle.calls.specs.Reading.{write_form, write_fact, Plain, read_sheet, FactFits, Good}
-use Rattle.calls.specs.Sheets.{fact_said}
+use Rattle.records.specs.Reading.{fact_said}
 use Rattle.calls.proofs.Bytes.{constraint_bytes}
 use Rattle.calls.proofs.RowBytes.{four_are}
 use Rattle.calls.proofs.Written.{alts_kept}

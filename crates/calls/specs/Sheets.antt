@@ -22,7 +22,7 @@ use Rattle.records.specs.declared.rows.TermRow.{TermRow}
 use Rattle.records.specs.declared.rows.ConstraintRow.{ConstraintRow}
 use Rattle.records.specs.declared.rows.Fact.{Fact}
 use Rattle.records.specs.declared.record.RowRecord.TheVariants as row
-use Rattle.records.specs.Reading.{RowRead, header_in, row_in}
+use Rattle.records.specs.Reading.{RowRead, fact_said, header_in, row_in}
 use Rattle.labels.specs.Kinds.{known_by}
 use Rattle.calls.specs.Stores.{Held, with_labels, with_terms, with_facts, enough}
 use Rattle.calls.specs.Tests.{row_ok, fact_ok}
@@ -148,18 +148,6 @@ term_added f h r =
       stores = with_terms h (slice_set h.terms f.terms_in r);
     })
     (not_added f h (IllTerm f.terms_in))
-
--- The fact that a constraint row says, where its sign is 0 or 1.
-abbrev pub fact_said : ConstraintRow → Fact
-fact_said r = record {
-  form = r.form;
-  positive = (r.sign == 1);
-  term = r.term;
-  a = r.a;
-  b = r.b;
-  c = r.c;
-  d = r.d;
-}
 
 -- A constraint row that is due: its sign is 0 or 1, and its fact passes over the rows.
 abbrev pub constraint_added : Filling → Held → ConstraintRow → Added

@@ -3,6 +3,7 @@ use Rattle.std.specs.Prelude.{ℕ, ◌+◌, ◌*◌, Bool, cond, ◌&&◌, List,
 use Rattle.records.specs.declared.rows.Header.{Header}
 use Rattle.records.specs.declared.rows.TermRow.{TermRow}
 use Rattle.records.specs.declared.rows.ConstraintRow.{ConstraintRow}
+use Rattle.records.specs.declared.rows.Fact.{Fact}
 use Rattle.records.specs.declared.rows.Step.{Step}
 use Rattle.records.specs.declared.record.RowRecord.{RowRecord}
 use Rattle.records.specs.declared.record.RowRecord.TheVariants as row
@@ -97,3 +98,15 @@ abbrev pub step_in : List ℕ → Move
 step_in bs =
     cond (whole 9 83 84 bs) (rule (step_of bs))
     (cond (nat_le 3 (length bs) && marked 77 68 bs) (model (byte bs 2) (drop 3 bs)) other)
+
+-- the fact that a constraint row says, where its sign is 0 or 1.
+abbrev pub fact_said : ConstraintRow → Fact
+fact_said r = record {
+  form = r.form;
+  positive = (r.sign == 1);
+  term = r.term;
+  a = r.a;
+  b = r.b;
+  c = r.c;
+  d = r.d;
+}

@@ -1,7 +1,10 @@
-ghost use Rattle.std.specs.Prelude.{◌≡◌, ◌==◌};
+ghost use Rattle.std.specs.Prelude.{◌≡◌, ◌&&◌, ◌==◌};
 ghost use Rattle.records.specs.Kinds.{operation_number, form_number};
+ghost use Rattle.records.specs.Reading.{fact_said};
+ghost use Rattle.records.specs.Tuples.{names};
 
 use super::kinds::{Form, Operation};
+use super::tuple::Tuple;
 
 // A header: the kind's letter, and how many labels, free names, terms and constraints the sheet has.
 #[derive(Clone, Copy, Debug, Default, PartialEq, Eq)]
@@ -64,6 +67,48 @@ impl Fact {
         ensures { result ≡ (self.form == form_number form) }
     {
         self.form == form as u8
+    }
+
+    // Whether the fact has this form and is positive.
+    pub fn affirms(self, form: Form) -> bool
+        ensures { result ≡ (self.form == form_number form && self.positive) }
+    {
+        self.is(form) && self.positive
+    }
+}
+
+// The fact that a constraint row says, where its sign is 0 or 1.
+impl From<ConstraintRow> for Fact {
+    ghost from_gives = { λ row fact. fact ≡ fact_said row };
+
+    fn from(row: ConstraintRow) -> Fact {
+        Fact {
+            form: row.form,
+            positive: row.sign == 1,
+            term: row.term,
+            a: row.a,
+            b: row.b,
+            c: row.c,
+            d: row.d,
+        }
+    }
+}
+
+// The names of a fact.
+impl From<Fact> for Tuple {
+    ghost from_gives = { λ fact tuple. tuple ≡ names fact.a fact.b fact.c fact.d };
+
+    fn from(fact: Fact) -> Tuple {
+        Tuple::new(fact.a, fact.b, fact.c, fact.d)
+    }
+}
+
+// The names of a singleton's row.
+impl From<TermRow> for Tuple {
+    ghost from_gives = { λ row tuple. tuple ≡ names row.a row.b row.c row.d };
+
+    fn from(row: TermRow) -> Tuple {
+        Tuple::new(row.a, row.b, row.c, row.d)
     }
 }
 

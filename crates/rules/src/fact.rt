@@ -1,47 +1,12 @@
-// Facts told by their form, taken apart and made, and the alternatives that one or more of them are.
+// Facts made by their form, and the alternatives that one or more of them are.
 ghost use Rattle.std.specs.Prelude.{◌≡◌};
-ghost use Rattle.rules.specs.Facts.{is_in, is_eq, is_same, fact_names, row_names, in_fact, eq_fact, same_fact};
+ghost use Rattle.rules.specs.Facts.{in_fact, eq_fact, same_fact};
 ghost use Rattle.rules.specs.Facts.{equal_facts, one_of, two_of, equalities_of};
 
 use super::cited::Alt;
 use records::kinds::Form;
-use records::rows::{Fact, TermRow};
+use records::rows::Fact;
 use records::tuple::Tuple;
-
-// A positive fact that a tuple is in a term.
-pub(crate) fn is_in(f: Fact) -> bool
-    ensures { result ≡ is_in f }
-{
-    f.is(Form::Member) && f.positive
-}
-
-// A positive equality of names.
-pub(crate) fn is_eq(f: Fact) -> bool
-    ensures { result ≡ is_eq f }
-{
-    f.is(Form::EqualNames) && f.positive
-}
-
-// A positive equality of terms.
-pub(crate) fn is_same(f: Fact) -> bool
-    ensures { result ≡ is_same f }
-{
-    f.is(Form::EqualTerms) && f.positive
-}
-
-// The names of a fact.
-pub(crate) fn tuple_of(f: Fact) -> Tuple
-    ensures { result ≡ fact_names f }
-{
-    Tuple::new(f.a, f.b, f.c, f.d)
-}
-
-// The names of a singleton's row.
-pub(crate) fn tuple_in(row: TermRow) -> Tuple
-    ensures { result ≡ row_names row }
-{
-    Tuple::new(row.a, row.b, row.c, row.d)
-}
 
 // The fact that the tuple u is in term t, or is not.
 pub(crate) fn in_fact(positive: bool, u: Tuple, t: u8) -> Fact
@@ -88,7 +53,7 @@ pub(crate) fn same_fact(positive: bool, s: u8, r: u8) -> Fact
 pub(crate) fn equal_facts(f: Fact, g: Fact) -> bool
     ensures { result ≡ equal_facts f g }
 {
-    f.form == g.form && f.term == g.term && tuple_of(f) == tuple_of(g)
+    f.form == g.form && f.term == g.term && Tuple::from(f) == Tuple::from(g)
 }
 
 // The alternative of one fact, without fresh names.

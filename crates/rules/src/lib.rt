@@ -3,7 +3,7 @@
 #![tactic(auto)]
 
 ghost use Rattle.std.specs.Prelude.{◌≡◌, ◌≤◌};
-ghost use Rattle.rules.specs.Rules.{line_met, self_unequal, negated_by, has_place, has_side, labels_are};
+ghost use Rattle.rules.specs.Rules.{line_met, self_unequal, negated_by, has_place, has_side};
 ghost use Rattle.rules.specs.Rules.{alternative_of, alternatives_of};
 ghost use Rattle.rules.specs.Looked.{uses, untouched, zeros_kept};
 
@@ -12,10 +12,7 @@ mod fact;
 pub mod outcome;
 
 use cited::{Alt, Cited, Uses};
-use fact::{
-    eq_fact, equal_facts, equalities_of, in_fact, is_eq, is_in, is_same, one_of, same_fact,
-    tuple_in, tuple_of, two_of,
-};
+use fact::{eq_fact, equal_facts, equalities_of, in_fact, one_of, same_fact, two_of};
 use records::kinds::{Form, Operation};
 use records::rows::{Fact, Step};
 use records::rule::Rule;
@@ -104,66 +101,65 @@ fn has_side(w: u8, s: u8, f: Fact) -> bool
         || w == 1 && f.is(Form::EqualTerms) && f.a == s
 }
 
-// Whether the labels were found, and compared so.
-fn labels_are(found: Option<bool>, same: bool) -> bool
-    ensures { result ≡ labels_are found same }
-{
-    found == Some(same)
-}
-
 // Whether the rule's line is met.
 pub fn met(rule: Rule, c: Cited) -> bool
     ensures { result ≡ line_met rule c }
 {
     match rule {
-        Rule::InterUp => is_in(c.p)
-            && is_in(c.q)
-            && tuple_of(c.p) == tuple_of(c.q)
+        Rule::InterUp => c.p.affirms(Form::Member)
+            && c.q.affirms(Form::Member)
+            && Tuple::from(c.p) == Tuple::from(c.q)
             && c.of_t.is(Operation::Intersection)
             && c.of_t.a == c.p.term
             && c.of_t.b == c.q.term,
-        Rule::InterDown => is_in(c.p) && c.of_p.is(Operation::Intersection),
-        Rule::UnionUp => is_in(c.p)
+        Rule::InterDown => c.p.affirms(Form::Member) && c.of_p.is(Operation::Intersection),
+        Rule::UnionUp => c.p.affirms(Form::Member)
             && c.of_t.is(Operation::Union)
             && (c.of_t.a == c.p.term || c.of_t.b == c.p.term),
-        Rule::UnionDown => is_in(c.p) && c.of_p.is(Operation::Union),
-        Rule::DiffUp => is_in(c.p) && c.of_t.is(Operation::Difference) && c.of_t.a == c.p.term,
-        Rule::DiffDown => is_in(c.p) && c.of_p.is(Operation::Difference),
+        Rule::UnionDown => c.p.affirms(Form::Member) && c.of_p.is(Operation::Union),
+        Rule::DiffUp => c.p.affirms(Form::Member)
+            && c.of_t.is(Operation::Difference)
+            && c.of_t.a == c.p.term,
+        Rule::DiffDown => c.p.affirms(Form::Member) && c.of_p.is(Operation::Difference),
         Rule::SingleUp => c.of_t.is(Operation::Single),
-        Rule::SingleDown => is_in(c.p) && c.of_p.is(Operation::Single),
-        Rule::EmptyUnsat => is_in(c.p) && c.of_p.is(Operation::Empty),
+        Rule::SingleDown => c.p.affirms(Form::Member) && c.of_p.is(Operation::Single),
+        Rule::EmptyUnsat => c.p.affirms(Form::Member) && c.of_p.is(Operation::Empty),
         Rule::SetDiseq => c.p.is(Form::EqualTerms) && !c.p.positive,
         Rule::EqUnsat => c.one && is_self_unequal(c.p) || is_negated_by(c.p, c.q),
-        Rule::TranspUp => is_in(c.p) && c.of_t.is(Operation::Transpose) && c.of_t.a == c.p.term,
-        Rule::TranspDown => is_in(c.p) && c.of_p.is(Operation::Transpose),
-        Rule::JoinUp => is_in(c.p)
-            && is_in(c.q)
+        Rule::TranspUp => c.p.affirms(Form::Member)
+            && c.of_t.is(Operation::Transpose)
+            && c.of_t.a == c.p.term,
+        Rule::TranspDown => c.p.affirms(Form::Member) && c.of_p.is(Operation::Transpose),
+        Rule::JoinUp => c.p.affirms(Form::Member)
+            && c.q.affirms(Form::Member)
             && c.of_t.is(Operation::Join)
             && c.of_t.a == c.p.term
             && c.of_t.b == c.q.term
             && c.of_p.arity >= 1
-            && tuple_of(c.p).at(c.of_p.arity - 1) == c.q.a,
-        Rule::JoinDown => is_in(c.p) && c.of_p.is(Operation::Join) && c.left >= 1,
-        Rule::ProdUp => is_in(c.p)
-            && is_in(c.q)
+            && Tuple::from(c.p).at(c.of_p.arity - 1) == c.q.a,
+        Rule::JoinDown => c.p.affirms(Form::Member) && c.of_p.is(Operation::Join) && c.left >= 1,
+        Rule::ProdUp => c.p.affirms(Form::Member)
+            && c.q.affirms(Form::Member)
             && c.of_t.is(Operation::Product)
             && c.of_t.a == c.p.term
             && c.of_t.b == c.q.term,
-        Rule::ProdDown => is_in(c.p) && c.of_p.is(Operation::Product),
-        Rule::ClosUpOne => is_in(c.p) && c.of_t.is(Operation::Closure) && c.of_t.a == c.p.term,
-        Rule::ClosUpTwo => is_in(c.p)
-            && is_in(c.q)
+        Rule::ProdDown => c.p.affirms(Form::Member) && c.of_p.is(Operation::Product),
+        Rule::ClosUpOne => c.p.affirms(Form::Member)
+            && c.of_t.is(Operation::Closure)
+            && c.of_t.a == c.p.term,
+        Rule::ClosUpTwo => c.p.affirms(Form::Member)
+            && c.q.affirms(Form::Member)
             && c.p.term == c.q.term
             && c.of_p.is(Operation::Closure)
             && c.p.b == c.q.a,
-        Rule::ClosDown => is_in(c.p) && c.of_p.is(Operation::Closure),
+        Rule::ClosDown => c.p.affirms(Form::Member) && c.of_p.is(Operation::Closure),
         Rule::Sym => c.p.is(Form::EqualNames) || c.p.is(Form::EqualTerms),
-        Rule::SwapName => is_eq(c.q)
+        Rule::SwapName => c.q.affirms(Form::EqualNames)
             && has_place(c.w, c.of_p.arity, c.p)
-            && tuple_of(c.p).at(c.w) == c.q.a,
-        Rule::SwapTerm => is_same(c.q) && has_side(c.w, c.q.term, c.p),
-        Rule::LabelUnsat => is_eq(c.p) && labels_are(c.labels, false),
-        Rule::LabelSame => labels_are(c.labels, true),
+            && Tuple::from(c.p).at(c.w) == c.q.a,
+        Rule::SwapTerm => c.q.affirms(Form::EqualTerms) && has_side(c.w, c.q.term, c.p),
+        Rule::LabelUnsat => c.p.affirms(Form::EqualNames) && c.labels == Some(false),
+        Rule::LabelSame => c.labels == Some(true),
     }
 }
 
@@ -186,7 +182,7 @@ pub fn alternative(rule: Rule, c: Cited, n: u8, k: u8) -> Alt
     requires { n ≤ 64 }
     ensures { result ≡ alternative_of rule c n k }
 {
-    let u = tuple_of(c.p);
+    let u = Tuple::from(c.p);
     match rule {
         Rule::InterUp | Rule::UnionUp | Rule::ClosUpOne => one_of(in_fact(true, u, c.t)),
         Rule::InterDown => two_of(0, in_fact(true, u, c.of_p.a), in_fact(true, u, c.of_p.b)),
@@ -205,8 +201,8 @@ pub fn alternative(rule: Rule, c: Cited, n: u8, k: u8) -> Alt
             }
         }
         Rule::DiffDown => two_of(0, in_fact(true, u, c.of_p.a), in_fact(false, u, c.of_p.b)),
-        Rule::SingleUp => one_of(in_fact(true, tuple_in(c.of_t), c.t)),
-        Rule::SingleDown => equalities_of(c.of_p.arity, u, tuple_in(c.of_p)),
+        Rule::SingleUp => one_of(in_fact(true, Tuple::from(c.of_t), c.t)),
+        Rule::SingleDown => equalities_of(c.of_p.arity, u, Tuple::from(c.of_p)),
         Rule::EmptyUnsat | Rule::EqUnsat | Rule::LabelUnsat => Alt::default(),
         Rule::SetDiseq => {
             let z = Tuple::fresh(c.of_p.arity, n);
@@ -228,7 +224,7 @@ pub fn alternative(rule: Rule, c: Cited, n: u8, k: u8) -> Alt
         Rule::TranspDown => one_of(in_fact(true, u.reversed(c.of_p.arity), c.of_p.a)),
         Rule::JoinUp => {
             let i = c.of_p.arity.saturating_sub(1);
-            one_of(in_fact(true, u.joined(i, tuple_of(c.q).rest_from(1)), c.t))
+            one_of(in_fact(true, u.joined(i, Tuple::from(c.q).rest_from(1)), c.t))
         }
         Rule::JoinDown => {
             let i = c.left.saturating_sub(1);
@@ -238,7 +234,7 @@ pub fn alternative(rule: Rule, c: Cited, n: u8, k: u8) -> Alt
                 in_fact(true, u.rest_from(i).after(n), c.of_p.b),
             )
         }
-        Rule::ProdUp => one_of(in_fact(true, u.joined(c.of_p.arity, tuple_of(c.q)), c.t)),
+        Rule::ProdUp => one_of(in_fact(true, u.joined(c.of_p.arity, Tuple::from(c.q)), c.t)),
         Rule::ProdDown => two_of(
             0,
             in_fact(true, u.joined(c.left, Tuple::default()), c.of_p.a),

@@ -6,7 +6,8 @@ use Rattle.records.specs.declared.rows.TermRow.{TermRow}
 use Rattle.records.specs.declared.rows.ConstraintRow.{ConstraintRow}
 use Rattle.calls.specs.Stores.{Held}
 use Rattle.calls.specs.Tests.{row_ok, fact_ok}
-use Rattle.calls.specs.Sheets.{Filling, Added, fact_said, not_added}
+use Rattle.calls.specs.Sheets.{Filling, Added, not_added}
+use Rattle.records.specs.Reading.{fact_said}
 use Rattle.calls.specs.Sheets.{label_added, term_added, constraint_added}
 
 -- how many names a sheet has: its labels and the free ones

@@ -1,7 +1,7 @@
 // The tests of a term row and of a constraint's fact on plain numbers, and the arities that they ask for.
 ghost use Rattle.std.specs.Prelude.{◌≡◌, take};
 ghost use Rattle.rules.specs.Looked.{row_at};
-ghost use Rattle.calls.specs.Sheets.{fact_said};
+ghost use Rattle.records.specs.Reading.{fact_said};
 ghost use Rattle.calls.specs.Tests.{row_tested, fact_tested, place_ok};
 
 use records::rows::{ConstraintRow, Fact, TermRow};
