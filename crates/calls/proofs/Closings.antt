@@ -149,9 +149,9 @@ module _
         let follows =
         lands_follow t h w un room (f.facts + size_of a) (f.names + a.fresh) (forks_left t.forks f)
         (put_alt h.facts f.facts a) (set h.forks (t.forks - 1) (onward f)) _ _ _
-        (put_length h.facts f.facts a) (length-set h.forks (t.forks - 1) (onward f))
-        (put_below h.facts f.facts a t.constraints fit.constraints_below (omega arith))
-        (put_front h.facts f.facts a (omega arith)
+        (put_length h.facts f.facts (facts_of a)) (length-set h.forks (t.forks - 1) (onward f))
+        (put_below h.facts f.facts (facts_of a) t.constraints fit.constraints_below (omega arith))
+        (put_front h.facts f.facts (facts_of a) (omega arith)
         ∙ ap (λ (z : List FactRow). z ++ facts_of a) (sym (take-take f.facts t.facts h.facts fit.front)))
         (forks_then (ltb (onward f).next (alternatives_of f.rule)))
         (few_forks_then (ltb (onward f).next (alternatives_of f.rule))) lands in

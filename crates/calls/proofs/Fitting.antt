@@ -1,5 +1,5 @@
 -- The room tests of a step speak of all its alternatives (`room_told`).
-use Rattle.std.proofs.Common.{◌≡◌, ℕ, ◌+◌, ◌≤◌, Bool, true, false, cond, ◌||◌, eqb, ltb, ◌↔◌, List, [], ◌∷◌, length, sym, refl, subst, arith, ltb-false, le-ltb}
+use Rattle.std.proofs.Common.{◌≡◌, ℕ, ◌+◌, ◌≤◌, Bool, true, false, ◌||◌, ltb, ◌↔◌, [], ◌∷◌, sym, refl, arith, ltb-false, le-ltb}
 use Rattle.std.specs.List.{AllByRecursion}
 use Rattle.records.specs.declared.rule.Rule.{Rule as RuleName}
 use Rattle.records.specs.declared.rule.Rule.TheVariants as R
@@ -7,7 +7,6 @@ use Rattle.rules.specs.declared.cited.Cited.{Cited}
 use Rattle.rules.specs.declared.cited.Alt.{Alt as AltRow}
 use Rattle.rules.specs.Facts.{no_alt}
 use Rattle.rules.specs.Rules.{alternative_of, size_of}
-use Rattle.calls.specs.Reading.{alt_facts}
 use Rattle.calls.specs.Passing.{alt_rows}
 use Rattle.calls.specs.Fitting.{RoomTold}
 use Rattle.calls.proofs.Truth.{clash}
@@ -86,48 +85,8 @@ module _ (count : AltRow → ℕ) (l : ℕ) where
   told h R.LabelUnsat c n = none_told h
   told h R.LabelSame c n = one_told _
 
--- the size of an alternative is the number of its facts
-pub sized : (a : AltRow) → size_of a ≡ length (alt_facts a)
-sized a = go (eqb a.count 0) (eqb a.count 1) (eqb a.count 2) (eqb a.count 3)
-  where
-    go :
-        (b c d e : Bool) →
-        cond b 0 (cond c 1 (cond d 2 (cond e 3 4)))
-        ≡ length
-        (cond b []
-        (cond c (a.first ∷ [])
-        (cond d (a.first ∷ a.second ∷ [])
-        (cond e (a.first ∷ a.second ∷ a.third ∷ [])
-        (a.first ∷ a.second ∷ a.third ∷ a.fourth ∷ [])))))
-    go true c d e = refl
-    go false true d e = refl
-    go false false true e = refl
-    go false false false true = refl
-    go false false false false = refl
-
--- what is said of sizes, said of facts
-resized :
-    (m l : ℕ) (xs : List AltRow) →
-    AllByRecursion (λ (a : AltRow). m + size_of a ≤ l) xs ↔ AllByRecursion (λ (a : AltRow). m + length (alt_facts a) ≤ l) xs
-resized m l xs = (to xs, from xs)
-  where
-    to :
-        (xs : List AltRow) → AllByRecursion (λ (a : AltRow). m + size_of a ≤ l) xs →
-        AllByRecursion (λ (a : AltRow). m + length (alt_facts a) ≤ l) xs
-    to [] h = tt
-    to (a ∷ xs) h = (subst (λ (k : ℕ). m + k ≤ l) (sized a) h.0, to xs h.1)
-
-    from :
-        (xs : List AltRow) → AllByRecursion (λ (a : AltRow). m + length (alt_facts a) ≤ l) xs →
-        AllByRecursion (λ (a : AltRow). m + size_of a ≤ l) xs
-    from [] h = tt
-    from (a ∷ xs) h = (subst (λ (k : ℕ). m + k ≤ l) (sym (sized a)) h.0, from xs h.1)
-
 pub room_told : RoomTold
 room_told = (
   λ r c n h. told (λ a. n + a.fresh) 64 (omega arith) r c n,
-  λ r c n m h.
-      (let t = told (λ a. m + size_of a) 1024 (omega arith) r c n in
-      let s = resized m 1024 (alt_rows r c n) in
-      (λ e. s.0 (t.0 e), λ q. t.1 (s.1 q))),
+  λ r c n m h. told (λ a. m + size_of a) 1024 (omega arith) r c n,
 )

@@ -1,12 +1,9 @@
 -- What writes leave in the counted fronts of the stores: the facts of an alternative come after the front that
 -- they are written to (`put_front`, `put_below`), and the last of a front is split off it (`last_split`).
-use Rattle.std.proofs.Common.{◌≡◌, ℕ, zero, suc, ◌+◌, ◌-◌, ◌<◌, ◌≤◌, Bool, true, false, cond, eqb, List, [], ◌∷◌, ◌++◌, length, take, set, Some, None, sym, refl, ap, ◌∙◌, ap₂, arith, length-set, length-take}
+use Rattle.std.proofs.Common.{◌≡◌, ℕ, zero, suc, ◌+◌, ◌-◌, ◌<◌, ◌≤◌, List, [], ◌∷◌, ◌++◌, length, take, set, Some, None, sym, refl, ap, ◌∙◌, ap₂, arith, length-set, length-take}
 use Rattle.std.specs.List.{slice_get}
 use Rattle.std.proofs.lemmas.List.{append-nil, append_assoc, take_more_set, take-take, take-append-le}
-use Rattle.records.specs.declared.rows.Fact.{Fact as FactRow}
-use Rattle.rules.specs.declared.cited.Alt.{Alt as AltRow}
-use Rattle.rules.specs.Rules.{size_of, facts_of}
-use Rattle.calls.specs.RuleSteps.{put_alt}
+use Rattle.calls.specs.RuleSteps.{put_all}
 
 -- ── fronts ─────────────────────────────────────────────────────────────────
 
@@ -85,94 +82,33 @@ snoc_same (z ∷ a) (w ∷ b) x y e =
     let hd : z ≡ w = cc in
     let r = snoc_same a b x y t in (ap₂ ◌∷◌ hd r.0, r.1)
 
--- ── an alternative written ─────────────────────────────────────────────────
+-- ── a list written ─────────────────────────────────────────────────────────
 
--- one more
-more :
-    {X : Type 0} (xs ys zs : List X) (i j : ℕ) (x : X) → j ≡ i + 1 → i < length xs → take i xs ≡ ys ++ zs →
-    take j (set xs i x) ≡ ys ++ (zs ++ (x ∷ []))
-more xs ys zs i j x e h q =
-    ap (λ (k : ℕ). take k (set xs i x)) e
-    ∙ take_more_set xs i x h
-    ∙ ap (λ (l : List _). l ++ (x ∷ [])) q
-    ∙ append_assoc ys zs (x ∷ [])
-
-module _ (xs : List FactRow) (i : ℕ) (a : AltRow) where
-  -- the facts with one, two, three or four of the alternative's written
-  abbrev wrote₁ : List FactRow
-  wrote₁ = set xs i a.first
-
-  abbrev wrote₂ : List FactRow
-  wrote₂ = set (set xs i a.first) (i + 1) a.second
-
-  abbrev wrote₃ : List FactRow
-  wrote₃ = set (set (set xs i a.first) (i + 1) a.second) (i + 2) a.third
-
-  abbrev wrote₄ : List FactRow
-  wrote₄ = set (set (set (set xs i a.first) (i + 1) a.second) (i + 2) a.third) (i + 3) a.fourth
-
-  one : i + 1 ≤ length xs → take (i + 1) wrote₁ ≡ take i xs ++ (a.first ∷ [])
-  one h = more xs (take i xs) [] i (i + 1) a.first refl (omega arith) (sym (append-nil (take i xs)))
-
-  two : i + 2 ≤ length xs → take (i + 2) wrote₂ ≡ take i xs ++ (a.first ∷ a.second ∷ [])
-  two h =
-      more wrote₁ (take i xs) (a.first ∷ []) (i + 1) (i + 2) a.second (omega arith)
-      (omega (arith, length-set xs i a.first)) (one (omega arith))
-
-  three : i + 3 ≤ length xs → take (i + 3) wrote₃ ≡ take i xs ++ (a.first ∷ a.second ∷ a.third ∷ [])
-  three h =
-      more wrote₂ (take i xs) (a.first ∷ a.second ∷ []) (i + 2) (i + 3) a.third (omega arith)
-      (omega (arith, length-set xs i a.first, length-set wrote₁ (i + 1) a.second))
-      (two (omega arith))
-
-  all_four :
-      i + 4 ≤ length xs →
-      take (i + 4) wrote₄ ≡ take i xs ++ (a.first ∷ a.second ∷ a.third ∷ a.fourth ∷ [])
-  all_four h =
-      more wrote₃ (take i xs) (a.first ∷ a.second ∷ a.third ∷ []) (i + 3) (i + 4) a.fourth (omega arith)
-      (omega
-      (arith, length-set xs i a.first, length-set wrote₁ (i + 1) a.second, length-set wrote₂ (i + 2) a.third))
-      (three (omega arith))
-
-  -- the front up to the alternative's last fact
+module _ {X : Type 0} where
+  -- the front up to the last element that is written
   pub put_front :
-      i + size_of a ≤ length xs → take (i + size_of a) (put_alt xs i a) ≡ take i xs ++ facts_of a
-  put_front h = go (eqb a.count 0) (eqb a.count 1) (eqb a.count 2) (eqb a.count 3) h
-    where
-      go :
-          (b₀ b₁ b₂ b₃ : Bool) → i + cond b₀ 0 (cond b₁ 1 (cond b₂ 2 (cond b₃ 3 4))) ≤ length xs →
-          take (i + cond b₀ 0 (cond b₁ 1 (cond b₂ 2 (cond b₃ 3 4))))
-          (cond b₀ xs (cond b₁ wrote₁ (cond b₂ wrote₂ (cond b₃ wrote₃ wrote₄))))
-          ≡ take i xs
-          ++ cond b₀ []
-          (cond b₁ (a.first ∷ [])
-          (cond b₂ (a.first ∷ a.second ∷ [])
-          (cond b₃ (a.first ∷ a.second ∷ a.third ∷ []) (a.first ∷ a.second ∷ a.third ∷ a.fourth ∷ []))))
-      go true b₁ b₂ b₃ h =
-          let e : i + 0 ≡ i = omega arith in ap (λ (k : ℕ). take k xs) e ∙ sym (append-nil (take i xs))
-      go false true b₂ b₃ h = one h
-      go false false true b₃ h = two h
-      go false false false true h = three h
-      go false false false false h = all_four h
+      (xs : List X) (i : ℕ) (ys : List X) → i + length ys ≤ length xs →
+      take (i + length ys) (put_all xs i ys) ≡ take i xs ++ ys
+  put_front xs i [] h = let e : i + 0 ≡ i = omega arith in ap (λ (k : ℕ). take k xs) e ∙ sym (append-nil (take i xs))
+  put_front xs i (y ∷ ys) h =
+      let e : i + suc (length ys) ≡ (i + 1) + length ys = omega arith in
+      ap (λ (k : ℕ). take k (put_all (set xs i y) (i + 1) ys)) e
+      ∙ put_front (set xs i y) (i + 1) ys (omega (arith, length-set xs i y))
+      ∙ ap (λ (l : List X). l ++ ys) (take_more_set xs i y (omega arith))
+      ∙ append_assoc (take i xs) (y ∷ []) ys
 
   -- the store stays as long
-  pub put_length : length (put_alt xs i a) ≡ length xs
-  put_length = go (eqb a.count 0) (eqb a.count 1) (eqb a.count 2) (eqb a.count 3)
-    where
-      go :
-          (b₀ b₁ b₂ b₃ : Bool) →
-          length (cond b₀ xs (cond b₁ wrote₁ (cond b₂ wrote₂ (cond b₃ wrote₃ wrote₄)))) ≡ length xs
-      go true b₁ b₂ b₃ = refl
-      go false true b₂ b₃ = simp length-set
-      go false false true b₃ = simp length-set
-      go false false false true = simp length-set
-      go false false false false = simp length-set
+  pub put_length : (xs : List X) (i : ℕ) (ys : List X) → length (put_all xs i ys) ≡ length xs
+  put_length xs i [] = refl
+  put_length xs i (y ∷ ys) = put_length (set xs i y) (i + 1) ys ∙ length-set xs i y
 
   -- a front that ends at or before the place stays
-  pub put_below : (c : ℕ) → c ≤ i → i + size_of a ≤ length xs → take c (put_alt xs i a) ≡ take c xs
-  put_below c l h =
+  pub put_below :
+      (xs : List X) (i : ℕ) (ys : List X) (c : ℕ) → c ≤ i → i + length ys ≤ length xs →
+      take c (put_all xs i ys) ≡ take c xs
+  put_below xs i ys c l h =
       let lt : i ≤ length (take i xs) = omega (arith, length-take i xs) in
-      sym (take-take c (i + size_of a) (put_alt xs i a) (omega arith))
-      ∙ ap (take c) (put_front h)
-      ∙ take-append-le c (take i xs) (facts_of a) (omega arith)
+      sym (take-take c (i + length ys) (put_all xs i ys) (omega arith))
+      ∙ ap (take c) (put_front xs i ys h)
+      ∙ take-append-le c (take i xs) ys (omega arith)
       ∙ take-take c i xs l

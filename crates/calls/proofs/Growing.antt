@@ -14,7 +14,7 @@ use Rattle.rules.specs.declared.cited.Alt.{Alt as AltRow}
 use Rattle.rules.specs.declared.cited.Plan.{Plan}
 use Rattle.rules.specs.declared.outcome.Outcome.{Outcome}
 use Rattle.rules.specs.declared.outcome.Outcome.TheVariants as outcome
-use Rattle.rules.specs.Rules.{alternative_of, alternatives_of, size_of}
+use Rattle.rules.specs.Rules.{alternative_of, alternatives_of, size_of, facts_of}
 use Rattle.rules.specs.Looked.{looked, planned}
 use Rattle.rules.specs.Room.{names_over, facts_over, grown}
 use Rattle.meaning.specs.Mixes.{Room}
@@ -28,7 +28,7 @@ use Rattle.calls.specs.Trials.{plain_of, branch_of}
 use Rattle.calls.specs.Views.{Whole}
 use Rattle.calls.proofs.Truth.{clash}
 use Rattle.calls.proofs.Bridge.{bridged}
-use Rattle.calls.proofs.Fitting.{room_told, sized}
+use Rattle.calls.proofs.Fitting.{room_told}
 use Rattle.calls.proofs.Fronts.{nth_low, put_front, put_length, put_below}
 use Rattle.calls.proofs.Forks.{all_at_number}
 use Rattle.calls.proofs.Forking.{again, forking, made}
@@ -68,9 +68,7 @@ module _
   first_names all = first_has (λ (z : AltRow). t.names + z.fresh ≤ 64) all
 
   first_facts : Facts → t.facts + size_of a ≤ 1024
-  first_facts all =
-      let l = first_has (λ (z : AltRow). t.facts + length (alt_facts z) ≤ 1024) all in
-      let e = sized a in omega arith
+  first_facts all = first_has (λ (z : AltRow). t.facts + length (alt_facts z) ≤ 1024) all
 
   all_fair : AllByRecursion (λ (z : AltRow). Fair (plain_of t h) (branch_facts t h ++ alt_facts z) (t.names + z.fresh)) rows
   all_fair = bridged.3 K (plain_of t h) (branch_facts t h) t.names (live t h w un room).fair x y ep
@@ -100,9 +98,9 @@ module _
       granted t h w un room K x y ep (outcome.Adds (grown t.facts t.names a))
       (with_room names facts (λ l. absurd (omega arith)))
       (lands_follow t h w un room (t.facts + size_of a) (t.names + a.fresh) t.forks
-      (put_alt h.facts t.facts a) h.forks _ _ _ (put_length h.facts t.facts a) refl
-      (put_below h.facts t.facts a t.constraints w.constraints_kept (omega arith))
-      (put_front h.facts t.facts a (omega arith)) refl w.few_forks
+      (put_alt h.facts t.facts a) h.forks _ _ _ (put_length h.facts t.facts (facts_of a)) refl
+      (put_below h.facts t.facts (facts_of a) t.constraints w.constraints_kept (omega arith))
+      (put_front h.facts t.facts (facts_of a) (omega arith)) refl w.few_forks
       (adds_land (plain_of t h) t.constraints t.facts t.names (branch_facts t h) (forks_of t h)
       (facts_long t h w un room) (live t h w un room).stacked w.constraints_kept y.rule y.cited a refl one
       (first_facts facts) (first_names names) first_fair))
@@ -132,9 +130,9 @@ module _
       (with_room names facts (λ l. few))
       (lands_follow t h w un room (t.facts + size_of a) (t.names + a.fresh) (t.forks + 1)
       (put_alt h.facts t.facts a) (set h.forks t.forks (forked t y.rule x)) _ _ _
-      (put_length h.facts t.facts a) (length-set h.forks t.forks (forked t y.rule x))
-      (put_below h.facts t.facts a t.constraints w.constraints_kept (omega arith))
-      (put_front h.facts t.facts a (omega arith))
+      (put_length h.facts t.facts (facts_of a)) (length-set h.forks t.forks (forked t y.rule x))
+      (put_below h.facts t.facts (facts_of a) t.constraints w.constraints_kept (omega arith))
+      (put_front h.facts t.facts (facts_of a) (omega arith))
       (take_more_set h.forks t.forks (forked t y.rule x) (omega arith)) (omega arith)
       (forks_land (plain_of t h) t.constraints t.facts t.names (branch_facts t h) (forks_of t h)
       (facts_long t h w un room) (live t h w un room).stacked w.constraints_kept y.rule y.cited a refl

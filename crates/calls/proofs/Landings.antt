@@ -15,7 +15,6 @@ use Rattle.calls.specs.Passing.{alt_rows}
 use Rattle.calls.specs.Bridge.{read_branch, Fair}
 use Rattle.calls.specs.RuleSteps.{or_none, cited_again, onward}
 use Rattle.calls.specs.Views.{cited_at, fork_with, read_fork, read_forks, ForkFits, Stacked, over}
-use Rattle.calls.proofs.Fitting.{sized}
 use Rattle.calls.proofs.Fronts.{nth_cut}
 use Rattle.calls.proofs.Forks.{
   map_same,
@@ -191,9 +190,7 @@ module _
   next_few_names = next_has (λ (z : AltRow). f.names + z.fresh ≤ 64) fit.names_fit
 
   pub next_few_facts : f.facts + size_of next_of ≤ 1024
-  next_few_facts =
-      let h = next_has (λ (z : AltRow). f.facts + length (alt_facts z) ≤ 1024) fit.facts_fit in
-      let e = sized next_of in omega arith
+  next_few_facts = next_has (λ (z : AltRow). f.facts + length (alt_facts z) ≤ 1024) fit.facts_fit
 
   next_step : (onward f).next ≡ f.next + 1
   next_step =

@@ -1,5 +1,5 @@
 -- The plain records read as rows and facts of the calculus, and written back.
-use Rattle.std.specs.Prelude.{◌≡◌, ℕ, ◌≤◌, Bool, cond, List, [], ◌∷◌, map, length, take, ◌==◌, slice_index, slice_index_or}
+use Rattle.std.specs.Prelude.{◌≡◌, ℕ, ◌≤◌, Bool, cond, List, [], ◌∷◌, map, take, ◌==◌, slice_index}
 use Rattle.std.proofs.Math.Option.{some}
 use Rattle.std.specs.List.{AllByRecursion}
 use Rattle.std.proofs.Math.ListN.{get_elem?}
@@ -8,8 +8,9 @@ use Rattle.records.specs.declared.rows.TermRow.{TermRow}
 use Rattle.records.specs.declared.tuple.Tuple.{Tuple}
 use Rattle.rules.specs.declared.cited.Alt.{Alt as AltRow}
 use Rattle.records.specs.Tuples as tuple
-use Rattle.rules.specs.Facts as fact
-use Rattle.rules.specs.Facts.{no_fact, in_fact, eq_fact, same_fact}
+use Rattle.rules.specs.declared.cited.Facts.{Facts}
+use Rattle.rules.specs.declared.cited.Facts.TheVariants as facts
+use Rattle.rules.specs.Facts.{in_fact, eq_fact, same_fact}
 use Rattle.rules.specs.Rules.{facts_of}
 use Rattle.rules.specs.Looked.{row_at}
 use Rattle.meaning.specs.Terms.{Op, variable, empty, single, union, inter, diff, transp, prod, join, closure}
@@ -99,15 +100,17 @@ write_row r = write_op r.arity r.op
 abbrev pub write_facts : List Fact → List FactRow
 write_facts fs = map write_fact fs
 
--- Fact i of a list, written; past the last it is no fact.
-abbrev pub written_at : List Fact → ℕ → FactRow
-written_at fs i = slice_index_or (write_facts fs) i no_fact
+-- The first four of these facts, in order.
+abbrev pub facts_from : List FactRow → Facts
+facts_from [] = facts.Empty
+facts_from (f ∷ []) = facts.One f
+facts_from (f ∷ g ∷ []) = facts.Two f g
+facts_from (f ∷ g ∷ h ∷ []) = facts.Three f g h
+facts_from (f ∷ g ∷ h ∷ i ∷ fs) = facts.Four f g h i
 
 -- An alternative of up to four facts, written.
 abbrev pub write_alt : Alt → AltRow
-write_alt a =
-    fact.alt a.fresh (length a.facts)
-    (written_at a.facts 0) (written_at a.facts 1) (written_at a.facts 2) (written_at a.facts 3)
+write_alt a = record { fresh = a.fresh; facts = facts_from (write_facts a.facts) }
 
 -- The facts of an alternative.
 abbrev pub alt_facts : AltRow → List FactRow

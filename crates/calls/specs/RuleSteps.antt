@@ -1,5 +1,5 @@
 -- A step by a rule on the numbers of a trial and the records in its stores: what it comes to, what it leaves.
-use Rattle.std.specs.Prelude.{ℕ, ◌+◌, ◌-◌, false, cond, List, take, Ok, Err, Option, Result, ◌==◌, nat_lt, slice_set}
+use Rattle.std.specs.Prelude.{ℕ, ◌+◌, ◌-◌, false, cond, List, [], ◌∷◌, take, Ok, Err, Option, Result, ◌==◌, nat_lt, slice_set}
 use Rattle.std.proofs.Math.Option as maybe
 use Rattle.std.specs.List.{slice_get}
 use Rattle.std.specs.declared.option.Option.TheVariants as option
@@ -19,7 +19,7 @@ use Rattle.rules.specs.declared.outcome.Fork.{Fork}
 use Rattle.rules.specs.declared.outcome.Outcome.{Outcome}
 use Rattle.rules.specs.declared.outcome.Outcome.TheVariants as outcome
 use Rattle.rules.specs.Facts.{no_fact}
-use Rattle.rules.specs.Rules.{alternative_of, alternatives_of, size_of}
+use Rattle.rules.specs.Rules.{alternative_of, alternatives_of, size_of, facts_of}
 use Rattle.rules.specs.Looked.{row_at, planned}
 use Rattle.rules.specs.Room.{names_over, facts_over, grown}
 use Rattle.calls.specs.Stores.{Held, with_facts, with_forks}
@@ -128,14 +128,14 @@ come_to K t h x = outcome_of t h x (planned K (codes_of t h) (rows_of t h) (bran
 
 -- ── what it leaves ─────────────────────────────────────────────────────────
 
+-- a list written from place i on
+abbrev pub put_all : {X : Type 0} → List X → ℕ → List X → List X
+put_all xs i [] = xs
+put_all xs i (y ∷ ys) = put_all (slice_set xs i y) (i + 1) ys
+
 -- an alternative's facts written from place i on
 abbrev pub put_alt : List Fact → ℕ → Alt → List Fact
-put_alt fs i x =
-    cond (x.count == 0) fs
-    (cond (x.count == 1) (slice_set fs i x.first)
-    (cond (x.count == 2) (slice_set (slice_set fs i x.first) (i + 1) x.second)
-    (cond (x.count == 3) (slice_set (slice_set (slice_set fs i x.first) (i + 1) x.second) (i + 2) x.third)
-    (slice_set (slice_set (slice_set (slice_set fs i x.first) (i + 1) x.second) (i + 2) x.third) (i + 3) x.fourth))))
+put_alt fs i x = put_all fs i (facts_of x)
 
 -- the trial after a granted record, with this verdict and these counts of facts, names and forks
 abbrev pub counted : Counts → Verdict → ℕ → ℕ → ℕ → Counts

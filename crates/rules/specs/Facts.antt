@@ -4,6 +4,8 @@ use Rattle.records.specs.declared.rows.Fact.{Fact}
 use Rattle.records.specs.declared.rows.TermRow.{TermRow}
 use Rattle.records.specs.declared.tuple.Tuple.{Tuple}
 use Rattle.rules.specs.declared.cited.Alt.{Alt}
+use Rattle.rules.specs.declared.cited.Facts.{Facts}
+use Rattle.rules.specs.declared.cited.Facts.TheVariants as facts
 use Rattle.records.specs.Tuples.{names, equal_names}
 
 -- a positive fact that a tuple is in a term
@@ -52,31 +54,30 @@ abbrev pub equal_facts : Fact → Fact → Bool
 equal_facts f g =
     (f.form == g.form) && (f.term == g.term && equal_names (fact_names f) (fact_names g))
 
--- the alternative with z fresh names and the first m of four facts
-abbrev pub alt : ℕ → ℕ → Fact → Fact → Fact → Fact → Alt
-alt z m f g h i = record { fresh = z; count = m; first = f; second = g; third = h; fourth = i }
-
 -- the alternative without facts
 abbrev pub no_alt : Alt
-no_alt = alt 0 0 no_fact no_fact no_fact no_fact
+no_alt = record { fresh = 0; facts = facts.Empty }
 
 -- the alternative of one fact, without fresh names
 abbrev pub one_of : Fact → Alt
-one_of f = alt 0 1 f no_fact no_fact no_fact
+one_of f = record { fresh = 0; facts = facts.One f }
 
 -- the alternative of two facts
 abbrev pub two_of : ℕ → Fact → Fact → Alt
-two_of z f g = alt z 2 f g no_fact no_fact
+two_of z f g = record { fresh = z; facts = facts.Two f g }
 
 -- the names x and y are equal
 abbrev pub eq_pos : ℕ → ℕ → Fact
 eq_pos x y = eq_fact true x y
 
 -- one equality for each of k places
+abbrev pub equalities : ℕ → Tuple → Tuple → Facts
+equalities k u v =
+    cond (k == 1) (facts.One (eq_pos u.a v.a))
+    (cond (k == 2) (facts.Two (eq_pos u.a v.a) (eq_pos u.b v.b))
+    (cond (k == 3) (facts.Three (eq_pos u.a v.a) (eq_pos u.b v.b) (eq_pos u.c v.c))
+    (facts.Four (eq_pos u.a v.a) (eq_pos u.b v.b) (eq_pos u.c v.c) (eq_pos u.d v.d))))
+
+-- the alternative of these equalities
 abbrev pub equalities_of : ℕ → Tuple → Tuple → Alt
-equalities_of k u v =
-    cond (k == 1) (one_of (eq_pos u.a v.a))
-    (cond (k == 2) (two_of 0 (eq_pos u.a v.a) (eq_pos u.b v.b))
-    (cond (k == 3)
-    (alt 0 3 (eq_pos u.a v.a) (eq_pos u.b v.b) (eq_pos u.c v.c) no_fact)
-    (alt 0 4 (eq_pos u.a v.a) (eq_pos u.b v.b) (eq_pos u.c v.c) (eq_pos u.d v.d))))
+equalities_of k u v = record { fresh = 0; facts = equalities k u v }

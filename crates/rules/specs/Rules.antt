@@ -1,5 +1,5 @@
 -- The rules' lines: which tests a line asks, how many alternatives its rule has, and what each appends.
-use Rattle.std.specs.Prelude.{ℕ, ◌+◌, ◌-◌, Bool, true, false, cond, not, ◌&&◌, ◌||◌, List, [], ◌∷◌, Some, None, Option, ◌==◌, nat_le, nat_lt}
+use Rattle.std.specs.Prelude.{ℕ, ◌+◌, ◌-◌, Bool, true, false, cond, not, ◌&&◌, ◌||◌, List, [], ◌∷◌, length, Some, None, Option, ◌==◌, nat_le, nat_lt}
 use Rattle.records.specs.declared.rows.Fact.{Fact}
 use Rattle.records.specs.declared.rule.Rule.{Rule}
 use Rattle.records.specs.declared.rule.Rule.TheVariants.{
@@ -31,10 +31,12 @@ use Rattle.records.specs.declared.rule.Rule.TheVariants.{
 }
 use Rattle.rules.specs.declared.cited.Cited.{Cited}
 use Rattle.rules.specs.declared.cited.Alt.{Alt}
+use Rattle.rules.specs.declared.cited.Facts.{Facts}
+use Rattle.rules.specs.declared.cited.Facts.TheVariants as facts
 use Rattle.records.specs.Tuples.{equal_names, reversed, joined, rest_from, name_at, name_put}
 use Rattle.records.specs.Tuples.{fresh_names, before_all, pair_of}
 use Rattle.rules.specs.Facts.{is_in, is_eq, is_same, fact_names, row_names, in_fact, eq_fact, same_fact}
-use Rattle.rules.specs.Facts.{equal_facts, alt, no_alt, one_of, two_of, equalities_of}
+use Rattle.rules.specs.Facts.{equal_facts, no_alt, one_of, two_of, equalities_of}
 
 -- whether two truth values are the same
 abbrev pub same_bool : Bool → Bool → Bool
@@ -206,11 +208,15 @@ alternative_of ClosDown c n k =
     (two_of 1
     (in_fact true (pair_of c.p.a n) c.of_p.a)
     (in_fact true (pair_of n c.p.b) c.of_p.a))
-    (alt 2 4
-    (in_fact true (pair_of c.p.a n) c.of_p.a)
-    (in_fact true (pair_of n (n + 1)) c.p.term)
-    (in_fact true (pair_of (n + 1) c.p.b) c.of_p.a)
-    (eq_fact false n (n + 1))))
+    (record {
+      fresh = 2;
+      facts =
+          facts.Four
+          (in_fact true (pair_of c.p.a n) c.of_p.a)
+          (in_fact true (pair_of n (n + 1)) c.p.term)
+          (in_fact true (pair_of (n + 1) c.p.b) c.of_p.a)
+          (eq_fact false n (n + 1));
+    }))
 alternative_of Sym c n k =
     cond (c.p.form == 2)
     (one_of (eq_fact c.p.positive c.p.b c.p.a))
@@ -228,19 +234,17 @@ alternative_of SwapTerm c n k =
 alternative_of LabelUnsat c n k = no_alt
 alternative_of LabelSame c n k = one_of (eq_fact true c.t c.w)
 
--- how many facts an alternative appends
-abbrev pub size_of : Alt → ℕ
-size_of x =
-    cond (x.count == 0) 0
-    (cond (x.count == 1) 1
-    (cond (x.count == 2) 2
-    (cond (x.count == 3) 3 4)))
-
 -- the facts that an alternative appends, in order
+abbrev pub in_order : Facts → List Fact
+in_order facts.Empty = []
+in_order (facts.One f) = f ∷ []
+in_order (facts.Two f g) = f ∷ g ∷ []
+in_order (facts.Three f g h) = f ∷ g ∷ h ∷ []
+in_order (facts.Four f g h i) = f ∷ g ∷ h ∷ i ∷ []
+
 abbrev pub facts_of : Alt → List Fact
-facts_of x =
-    cond (x.count == 0) []
-    (cond (x.count == 1) (x.first ∷ [])
-    (cond (x.count == 2) (x.first ∷ x.second ∷ [])
-    (cond (x.count == 3) (x.first ∷ x.second ∷ x.third ∷ [])
-    (x.first ∷ x.second ∷ x.third ∷ x.fourth ∷ []))))
+facts_of x = in_order x.facts
+
+-- how many these are
+abbrev pub size_of : Alt → ℕ
+size_of x = length (facts_of x)

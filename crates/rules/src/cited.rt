@@ -34,15 +34,21 @@ pub struct Plan {
     pub cited: Cited,
 }
 
-// One alternative: how many fresh names it brings, and the first `count` of four facts.
-#[derive(Clone, Copy, Default)]
+// The facts of an alternative, in their order: none to four of them.
+#[derive(Clone, Copy, Debug, PartialEq, Eq)]
+pub enum Facts {
+    Empty,
+    One(Fact),
+    Two(Fact, Fact),
+    Three(Fact, Fact, Fact),
+    Four(Fact, Fact, Fact, Fact),
+}
+
+// One alternative: how many fresh names it brings, and the facts that it appends.
+#[derive(Clone, Copy, Debug, PartialEq, Eq)]
 pub struct Alt {
     pub fresh: u8,
-    pub count: u8,
-    pub first: Fact,
-    pub second: Fact,
-    pub third: Fact,
-    pub fourth: Fact,
+    pub facts: Facts,
 }
 
 // An alternative to append from a count of facts on, with the counts of facts and names after it.

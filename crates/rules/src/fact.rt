@@ -1,9 +1,9 @@
 // Facts made by their form, and the alternatives that one or more of them are.
 ghost use Rattle.std.specs.Prelude.{◌≡◌};
 ghost use Rattle.rules.specs.Facts.{in_fact, eq_fact, same_fact};
-ghost use Rattle.rules.specs.Facts.{equal_facts, one_of, two_of, equalities_of};
+ghost use Rattle.rules.specs.Facts.{equal_facts, no_alt, one_of, two_of, equalities_of};
 
-use super::cited::Alt;
+use super::cited::{Alt, Facts};
 use records::kinds::Form;
 use records::rows::Fact;
 use records::tuple::Tuple;
@@ -56,14 +56,23 @@ pub(crate) fn equal_facts(f: Fact, g: Fact) -> bool
     f.form == g.form && f.term == g.term && Tuple::from(f) == Tuple::from(g)
 }
 
+// The alternative without facts.
+pub(crate) fn no_alt() -> Alt
+    ensures { result ≡ no_alt }
+{
+    Alt {
+        fresh: 0,
+        facts: Facts::Empty,
+    }
+}
+
 // The alternative of one fact, without fresh names.
 pub(crate) fn one_of(f: Fact) -> Alt
     ensures { result ≡ one_of f }
 {
     Alt {
-        count: 1,
-        first: f,
-        ..Alt::default()
+        fresh: 0,
+        facts: Facts::One(f),
     }
 }
 
@@ -73,10 +82,7 @@ pub(crate) fn two_of(fresh: u8, f: Fact, g: Fact) -> Alt
 {
     Alt {
         fresh,
-        count: 2,
-        first: f,
-        second: g,
-        ..Alt::default()
+        facts: Facts::Two(f, g),
     }
 }
 
@@ -84,23 +90,15 @@ pub(crate) fn two_of(fresh: u8, f: Fact, g: Fact) -> Alt
 pub(crate) fn equalities_of(k: u8, u: Tuple, v: Tuple) -> Alt
     ensures { result ≡ equalities_of k u v }
 {
-    match k {
-        1 => one_of(eq_fact(true, u.a, v.a)),
-        2 => two_of(0, eq_fact(true, u.a, v.a), eq_fact(true, u.b, v.b)),
-        3 => Alt {
-            count: 3,
-            first: eq_fact(true, u.a, v.a),
-            second: eq_fact(true, u.b, v.b),
-            third: eq_fact(true, u.c, v.c),
-            ..Alt::default()
-        },
-        _ => Alt {
-            fresh: 0,
-            count: 4,
-            first: eq_fact(true, u.a, v.a),
-            second: eq_fact(true, u.b, v.b),
-            third: eq_fact(true, u.c, v.c),
-            fourth: eq_fact(true, u.d, v.d),
-        },
-    }
+    let a = eq_fact(true, u.a, v.a);
+    let b = eq_fact(true, u.b, v.b);
+    let c = eq_fact(true, u.c, v.c);
+    let d = eq_fact(true, u.d, v.d);
+    let facts = match k {
+        1 => Facts::One(a),
+        2 => Facts::Two(a, b),
+        3 => Facts::Three(a, b, c),
+        _ => Facts::Four(a, b, c, d),
+    };
+    Alt { fresh: 0, facts }
 }

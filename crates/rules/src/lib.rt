@@ -11,8 +11,8 @@ pub mod cited;
 mod fact;
 pub mod outcome;
 
-use cited::{Alt, Cited, Uses};
-use fact::{eq_fact, equal_facts, equalities_of, in_fact, one_of, same_fact, two_of};
+use cited::{Alt, Cited, Facts, Uses};
+use fact::{eq_fact, equal_facts, equalities_of, in_fact, no_alt, one_of, same_fact, two_of};
 use records::kinds::{Form, Operation};
 use records::rows::{Fact, Step};
 use records::rule::Rule;
@@ -203,7 +203,7 @@ pub fn alternative(rule: Rule, c: Cited, n: u8, k: u8) -> Alt
         Rule::DiffDown => two_of(0, in_fact(true, u, c.of_p.a), in_fact(false, u, c.of_p.b)),
         Rule::SingleUp => one_of(in_fact(true, Tuple::from(c.of_t), c.t)),
         Rule::SingleDown => equalities_of(c.of_p.arity, u, Tuple::from(c.of_p)),
-        Rule::EmptyUnsat | Rule::EqUnsat | Rule::LabelUnsat => Alt::default(),
+        Rule::EmptyUnsat | Rule::EqUnsat | Rule::LabelUnsat => no_alt(),
         Rule::SetDiseq => {
             let z = Tuple::fresh(c.of_p.arity, n);
             if k == 0 {
@@ -253,11 +253,12 @@ pub fn alternative(rule: Rule, c: Cited, n: u8, k: u8) -> Alt
             } else {
                 Alt {
                     fresh: 2,
-                    count: 4,
-                    first: in_fact(true, Tuple::pair(c.p.a, n), c.of_p.a),
-                    second: in_fact(true, Tuple::pair(n, n + 1), c.p.term),
-                    third: in_fact(true, Tuple::pair(n + 1, c.p.b), c.of_p.a),
-                    fourth: eq_fact(false, n, n + 1),
+                    facts: Facts::Four(
+                        in_fact(true, Tuple::pair(c.p.a, n), c.of_p.a),
+                        in_fact(true, Tuple::pair(n, n + 1), c.p.term),
+                        in_fact(true, Tuple::pair(n + 1, c.p.b), c.of_p.a),
+                        eq_fact(false, n, n + 1),
+                    ),
                 }
             }
         }

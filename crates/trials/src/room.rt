@@ -6,7 +6,7 @@ ghost use Rattle.calls.specs.RuleSteps.{at_most, onward, forks_left};
 ghost use Rattle.trials.specs.Steps.{Fitting};
 
 use records::rule::Rule;
-use rules::cited::{Alt, Cited, Grown};
+use rules::cited::{Alt, Cited, Facts, Grown};
 use rules::outcome::Fork;
 use rules::{alternative, alternatives};
 
@@ -23,12 +23,12 @@ fn size(alt: Alt) -> u16
     ensures is { result ≡ size_of alt }
     ensures few { result ≤ 4 }
 {
-    match alt.count {
-        0 => 0,
-        1 => 1,
-        2 => 2,
-        3 => 3,
-        _ => 4,
+    match alt.facts {
+        Facts::Empty => 0,
+        Facts::One(_) => 1,
+        Facts::Two(_, _) => 2,
+        Facts::Three(_, _, _) => 3,
+        Facts::Four(_, _, _, _) => 4,
     }
 }
 

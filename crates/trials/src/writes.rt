@@ -5,7 +5,7 @@ ghost use Rattle.calls.specs.RuleSteps.{put_alt};
 ghost use Rattle.trials.specs.Steps.{Fitting};
 
 use records::rows::Fact;
-use rules::cited::{Alt, Grown};
+use rules::cited::{Alt, Facts, Grown};
 use stores::trail::Trail;
 
 // One entry more, where there is a place for it.
@@ -26,23 +26,23 @@ fn add_all(trail: &mut Trail<Fact>, alt: Alt)
         ≡ put_alt trail.old.slots.now trail.old.count alt }
     ensures same { trail.new.slots.ghost_name ≡ trail.old.slots.ghost_name }
 {
-    match alt.count {
-        0 => {}
-        1 => add(trail, alt.first),
-        2 => {
-            add(trail, alt.first);
-            add(trail, alt.second);
+    match alt.facts {
+        Facts::Empty => {}
+        Facts::One(f) => add(trail, f),
+        Facts::Two(f, g) => {
+            add(trail, f);
+            add(trail, g);
         }
-        3 => {
-            add(trail, alt.first);
-            add(trail, alt.second);
-            add(trail, alt.third);
+        Facts::Three(f, g, h) => {
+            add(trail, f);
+            add(trail, g);
+            add(trail, h);
         }
-        _ => {
-            add(trail, alt.first);
-            add(trail, alt.second);
-            add(trail, alt.third);
-            add(trail, alt.fourth);
+        Facts::Four(f, g, h, i) => {
+            add(trail, f);
+            add(trail, g);
+            add(trail, h);
+            add(trail, i);
         }
     }
 }
