@@ -1,88 +1,68 @@
--- Bytes written over others: one write after another (`wrote_more`), and loops that write piece by piece.
-use Rattle.std.proofs.Common.{◌≡◌, ℕ, ◌+◌, ◌/◌, ◌%◌, ◌<◌, ◌≤◌, List, [], ◌∷◌, ◌++◌, length, get_or, take, drop, set, sym, refl, ap, ◌∙◌, append_assoc, append-nil, add-zero, arith, length-append, length-set, take-append-drop}
+-- Pieces put on a page one after another, and lines after lines.
+use Rattle.std.proofs.Common.{◌≡◌, ℕ, ◌+◌, ◌<◌, ◌≤◌, List, [], ◌∷◌, ◌++◌, length, get_or, take, drop, subst, sym, refl, ap, ◌∙◌, append_assoc, append-nil, add-zero, arith, length-append}
+use mathlib.Core.Option.{some}
 use Rattle.std.specs.List.{flat_map}
-use Rattle.std.proofs.lemmas.List.{take_more, take_more_set, drop-set-lt, take-take}
-use Rattle.meaning.specs.Text.{numeral}
-use Rattle.listing.specs.Buffer.{over, Wrote}
-use Rattle.meaning.proofs.Numerals.{numeral_step, numeral_digit}
+use Rattle.std.proofs.lemmas.List.{drop-drop, take_more, flat_map_more}
+use Rattle.std.proofs.lemmas.List.Concat.{flat_map-append}
+use Rattle.meaning.specs.Text.{Line, text, line}
+use Rattle.meaning.specs.Reading.{read_lines}
+use Rattle.meaning.proofs.ReadBack.{reads_back}
+use Rattle.listing.specs.Buffer.{Filled, Wrote, Listed}
+use Rattle.listing.specs.Lines.{shown, most_of}
+use Rattle.listing.specs.declared.line.Line as code
+use Rattle.listing.specs.declared.page.Page.{Page}
 
-pub over-append : (xs : List ℕ) (at : ℕ) (cs bs : List ℕ) → over xs at (cs ++ bs) ≡ over (over xs at cs) (at + length cs) bs
-over-append xs at [] bs = ap (λ p. over xs p bs) (sym (add-zero at))
-over-append xs at (a ∷ cs) bs =
-    let e : (at + 1) + length cs ≡ at + length (a ∷ cs) = omega arith in
-    over-append (set xs at a) (at + 1) cs bs ∙ ap (λ p. over (over (set xs at a) (at + 1) cs) p bs) e
+filled_none : (xs : List ℕ) (at : ℕ) → Filled xs at [] xs at
+filled_none xs at = record { place = sym (add-zero at); front = sym (append-nil (take at xs)); rest = refl }
 
--- what is before and after stays
-pub over_parts : (xs : List ℕ) (at : ℕ) (bs : List ℕ) → at + length bs ≤ length xs → over xs at bs ≡ take at xs ++ (bs ++ drop (at + length bs) xs)
-over_parts xs at [] h = rw add-zero (sym (take-append-drop at xs))
-over_parts xs at (b ∷ bs) h =
-    let s : at < length xs = omega arith in
-    let m : (at + 1) + length bs ≤ length (set xs at b) = omega (arith, length-set xs at b) in
-    let e : (at + 1) + length bs ≡ at + length (b ∷ bs) = omega arith in
-    let lt : at < at + length (b ∷ bs) = omega arith in
-    over_parts (set xs at b) (at + 1) bs m
-    ∙ ap (λ p. p ++ (bs ++ drop ((at + 1) + length bs) (set xs at b))) (take_more_set xs at b s)
-    ∙ append_assoc (take at xs) (b ∷ []) (bs ++ drop ((at + 1) + length bs) (set xs at b))
-    ∙ ap (λ q. take at xs ++ (b ∷ (bs ++ drop q (set xs at b)))) e
-    ∙ ap (λ q. take at xs ++ (b ∷ (bs ++ q))) (drop-set-lt (at + length (b ∷ bs)) xs at b lt)
-
--- the bytes of a write at the start
-pub wrote_start : (xs bs ys : List ℕ) (r : ℕ) → length bs ≤ length xs → Wrote xs 0 bs ys r → (r ≡ length bs) × (ys ≡ bs ++ drop (length bs) xs)
-wrote_start xs bs ys r h w =
-    let k : 0 + length bs ≤ length xs = omega arith in
-    let z : 0 + length bs ≡ length bs = omega arith in
-    (w.place ∙ z, w.bytes ∙ over_parts xs 0 bs k ∙ ap (λ q. bs ++ drop q xs) z)
-
-pub wrote_none : (x : List ℕ) (at : ℕ) → Wrote x at [] x at
-wrote_none x at = record { bytes = refl; place = sym (add-zero at) }
-
--- one write after another
-pub wrote_more : {x y z : List ℕ} {at p r : ℕ} {bs cs : List ℕ} → Wrote x at bs y p → Wrote y p cs z r → Wrote x at (bs ++ cs) z r
-wrote_more {x = x} {y = y} {at = at} {p = p} {r = r} {bs = bs} {cs = cs} v w =
+filled_more : {xs ys zs : List ℕ} {at p r : ℕ} {bs cs : List ℕ} → Filled xs at bs ys p → Filled ys p cs zs r → Filled xs at (bs ++ cs) zs r
+filled_more {xs = xs} {ys = ys} {at = at} {p = p} {r = r} {bs = bs} {cs = cs} v w =
     record {
-      bytes = w.bytes ∙ ap (λ q. over y q cs) v.place ∙ ap (λ u. over u (at + length bs) cs) v.bytes ∙ sym (over-append x at bs cs);
       place = let l = length-append bs cs in let a = v.place in let b = w.place in omega arith;
+      front = w.front ∙ ap (λ l. l ++ cs) v.front ∙ append_assoc (take at xs) bs cs;
+      rest = w.rest ∙ rw w.place (sym (drop-drop (length cs) p ys) ∙ ap (drop (length cs)) v.rest ∙ drop-drop (length cs) p xs);
     }
 
-pub wrote_as : {x y : List ℕ} {at r : ℕ} {bs : List ℕ} (cs : List ℕ) → bs ≡ cs → Wrote x at bs y r → Wrote x at cs y r
-wrote_as {x = x} {at = at} cs e w = record { bytes = w.bytes ∙ ap (over x at) e; place = w.place ∙ ap (λ l. at + length l) e }
+-- one piece after another
+pub wrote_more : {x y z : Page} {bs cs : List ℕ} → Wrote x bs y → Wrote y cs z → Wrote x (bs ++ cs) z
+wrote_more {bs = bs} {cs = cs} v w =
+    let l = length-append bs cs in
+    let r = v.room in
+    record {
+      counted = λ h. let a = v.counted (omega arith) in let b = w.counted (omega arith) in omega arith;
+      filled = λ h. let f = v.filled (omega arith) in let a = f.place in filled_more f (w.filled (omega arith));
+      room = w.room ∙ v.room;
+      same = w.same ∙ v.same;
+    }
 
--- one byte
-pub wrote_byte : (x : List ℕ) (at b : ℕ) → Wrote x at (b ∷ []) (set x at b) (at + 1)
-wrote_byte x at b = record { bytes = refl; place = refl }
+pub wrote_as : {x y : Page} {bs : List ℕ} (cs : List ℕ) → bs ≡ cs → Wrote x bs y → Wrote x cs y
+wrote_as {x = x} {y = y} cs e w = subst (λ l. Wrote x l y) e w
 
-pub wrote_digit : (x : List ℕ) (at n : ℕ) → n < 10 → Wrote x at (numeral n) (set x at (48 + n)) (at + 1)
-wrote_digit x at n h = wrote_as (numeral n) (sym (numeral_digit n h)) (wrote_byte x at (48 + n))
+-- the pieces of one element more
+pub pieces_next : {X A : Type 0} (f : X → List A) (xs : List X) (i : ℕ) (d : X) → i < length xs → flat_map f (take i xs) ++ f (get_or xs i d) ≡ flat_map f (take (i + 1) xs)
+pieces_next f xs i d h = flat_map_more f [] (take i xs) (get_or xs i d) ∙ sym (ap (flat_map f) (take_more xs i d h))
 
-pub wrote_digits : (x y : List ℕ) (at p n : ℕ) → 10 ≤ n → Wrote x at (numeral (n / 10)) y p → Wrote x at (numeral n) (set y p (48 + n % 10)) (p + 1)
-wrote_digits x y at p n h w = wrote_as (numeral n) (sym (numeral_step n h)) (wrote_more w (wrote_byte y p (48 + n % 10)))
+-- no lines
+pub listed_none : (x : Page) (m : ℕ) → Listed x [] x m
+listed_none x m = record { wrote = record { counted = λ h. sym (add-zero x.at); filled = λ h. filled_none x.out.now x.at; room = refl; same = refl }; most = omega arith }
 
--- the loop's step and end over the bytes of a slice
-pub wrote_next : (x y : List ℕ) (at p : ℕ) (bs : List ℕ) (i : ℕ) → i < length bs → Wrote x at (take i bs) y p → Wrote x at (take (i + 1) bs) (set y p (get_or bs i 0)) (p + 1)
-wrote_next x y at p bs i h w = wrote_as (take (i + 1) bs) (sym (take_more bs i 0 h)) (wrote_more w (wrote_byte y p (get_or bs i 0)))
+-- how long one line is at most, from the variant to the value
+pub line_most : (s v : code.Line) → s ≡ v → length (line (shown v)) ≤ most_of v → length (text (shown s ∷ [])) ≤ most_of s
+line_most s v e h = subst (λ u. length (text (shown u ∷ [])) ≤ most_of u) (sym e) (omega (arith, ap length (append-nil (line (shown v))), h))
 
--- pieces one after another
-pub joined-append : {X : Type 0} (f : X → List ℕ) (xs ys : List X) → flat_map f (xs ++ ys) ≡ flat_map f xs ++ flat_map f ys
-joined-append f [] ys = refl
-joined-append f (x ∷ xs) ys = ap (λ l. f x ++ l) (joined-append f xs ys) ∙ sym (append_assoc (f x) (flat_map f xs) (flat_map f ys))
+-- lines after lines
+pub listed_more : {x y z : Page} (ls ms : List Line) (m k : ℕ) → Listed x ls y m → Listed y ms z k → Listed x (ls ++ ms) z (m + k)
+listed_more ls ms m k v w =
+    let e = flat_map-append line ls ms in
+    record { wrote = wrote_as (text (ls ++ ms)) (sym e) (wrote_more v.wrote w.wrote); most = omega (arith, ap length e, length-append (text ls) (text ms), v.most, w.most) }
 
-pub joined_next : {X : Type 0} (f : X → List ℕ) (xs : List X) (i : ℕ) (d : X) → i < length xs → flat_map f (take (i + 1) xs) ≡ flat_map f (take i xs) ++ f (get_or xs i d)
-joined_next f xs i d h = ap (flat_map f) (take_more xs i d h) ∙ joined-append f (take i xs) (get_or xs i d ∷ []) ∙ ap (λ l. flat_map f (take i xs) ++ l) (append-nil (f (get_or xs i d)))
+pub listed_as : {x y : Page} {ls : List Line} {m : ℕ} (ms : List Line) (k : ℕ) → ls ≡ ms → m ≤ k → Listed x ls y m → Listed x ms y k
+listed_as ms k e h l = record { wrote = wrote_as (text ms) (ap text e) l.wrote; most = omega (arith, ap (λ x. length (text x)) e, l.most) }
 
-pub joined_room : {X : Type 0} (f : X → List ℕ) (xs : List X) (i : ℕ) → length (flat_map f (take i xs)) ≤ length (flat_map f xs)
-joined_room f xs i = omega (arith, ap (λ l. length (flat_map f l)) (take-append-drop i xs), ap length (joined-append f (take i xs) (drop i xs)), length-append (flat_map f (take i xs)) (flat_map f (drop i xs)))
+-- the lines of one element more
+pub listed_next : {X : Type 0} {x y z : Page} (f : X → List Line) (xs : List X) (i : ℕ) (d : X) (m k n : ℕ) → m + k ≤ n → i < length xs → Listed x (flat_map f (take i xs)) y m → Listed y (f (get_or xs i d)) z k → Listed x (flat_map f (take (i + 1) xs)) z n
+listed_next f xs i d m k n t h v w = listed_as _ n (pieces_next f xs i d h) t (listed_more _ _ m k v w)
 
-pub joined_room_of : {X : Type 0} (f : X → List ℕ) (xs : List X) (m n : ℕ) → m ≤ n → length (flat_map f (take m xs)) ≤ length (flat_map f (take n xs))
-joined_room_of f xs m n h = omega (arith, joined_room f (take n xs) m, ap (λ l. length (flat_map f l)) (take-take m n xs h))
-
-pub length-row : (w js : List ℕ) → length ((w ++ js) ++ (10 ∷ [])) ≡ length w + (length js + 1)
-length-row w js = omega (arith, length-append (w ++ js) (10 ∷ []), length-append w js)
-
-pub length-next : {X : Type 0} (f : X → List ℕ) (xs : List X) (i : ℕ) (d : X) (size r : ℕ) → i < length xs → size ≡ length (flat_map f (take i xs)) → r ≡ length (f (get_or xs i d)) → size + r ≡ length (flat_map f (take (i + 1) xs))
-length-next f xs i d size r h p q = omega (arith, ap length (joined_next f xs i d h), length-append (flat_map f (take i xs)) (f (get_or xs i d)))
-
--- the next piece has room where all have
-pub room_next : {X : Type 0} (f : X → List ℕ) (xs : List X) (i : ℕ) (d : X) {x y : List ℕ} {at p : ℕ} → i < length xs → Wrote x at (flat_map f (take i xs)) y p → at + length (flat_map f xs) ≤ length x → length y ≡ length x → p + length (f (get_or xs i d)) ≤ length y
-room_next f xs i d h w r k =
-    let q = w.place in
-    omega (arith, joined_room f xs (i + 1), ap length (joined_next f xs i d h), length-append (flat_map f (take i xs)) (f (get_or xs i d)))
+-- lines at the front are read back
+pub heard : (xs ys : List ℕ) (n : ℕ) (ls : List Line) → Filled xs 0 (text ls) ys n → read_lines (take n ys) ≡ some ls
+heard xs ys n ls f = ap read_lines f.front ∙ reads_back ls

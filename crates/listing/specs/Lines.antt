@@ -1,5 +1,5 @@
 -- The lines that values of the code stand for, and how long each is at most.
-use Rattle.std.specs.Prelude.{ℕ, List, [], ◌∷◌, take, Some, None, Option}
+use Rattle.std.specs.Prelude.{ℕ, cond, List, [], ◌∷◌, take, Some, None, Option, nat_lt}
 use Rattle.meaning.specs.Text.{Line, closed, opened, name, inside, refused}
 use Rattle.listing.specs.declared.line.Tuple.{Tuple}
 use Rattle.listing.specs.declared.line.Line as code
@@ -20,6 +20,11 @@ most_of (Opened g) = 16
 most_of (Name e r) = 13
 most_of (In t) = 23
 most_of (Refused n r d) = 44
+
+-- How many bytes always suffice for the lines of a model after g granted records: 10 names with one digit, 54
+-- with two, and 1,024 facts take 10 * 11 + 54 * 12 + 1,024 * 23 = 24,310 bytes, and the first line 13 or 16.
+abbrev pub open_most : ℕ → ℕ
+open_most g = cond (nat_lt 1000000 g) 24326 24323
 
 -- The line of a tuple, where there is one.
 abbrev pub tuple_lines : Option Tuple → List Line

@@ -1,3 +1,4 @@
+use super::branch::Branch;
 use super::line::Line;
 use super::{list_line, list_open};
 use records::refusal::Refusal;
@@ -69,7 +70,15 @@ fn a_model_lists_what_it_holds(rt: HostRuntime) {
         fact(1, true, 2, 1, 200),
     ];
     assert_eq!(rt;
-        length_of(list_open(&mut out, 12, &[0, 255], &facts, &terms)),
+        length_of(list_open(
+            &mut out,
+            &Branch {
+                granted: 12,
+                representatives: &[0, 255],
+                facts: &facts,
+                terms: &terms,
+            },
+        )),
         54
     );
     assert!(rt; out == *b"OPEN 12\nname 0 0\nname 1 255\nin 0 255 0\nin 2 255 0 0 0\n");

@@ -1,0 +1,6 @@
+use Rattle.std.proofs.Common.{rules}
+use Rattle.listing.proofs.Overs.{heard}
+use Rattle.listing.proofs.page.fill.Goals as goal
+
+pub returns-clause-heard : goal.returns-clause-heard
+returns-clause-heard g c = search (rules, heard)

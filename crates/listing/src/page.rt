@@ -1,0 +1,94 @@
+// Text put piece after piece into a lent buffer.
+ghost use Rattle.std.specs.Prelude.{◌≡◌, ℕ, ◌^◌, ◌<◌, ◌≤◌, true, List, length, take, is_ok, IfOk, MatchResult};
+ghost use Rattle.std.proofs.Math.Option.{some};
+ghost use Rattle.meaning.specs.Text.{Line, numeral, row, text};
+ghost use Rattle.meaning.specs.Reading.{read_lines};
+ghost use Rattle.calls.specs.Listing.{written};
+ghost use Rattle.listing.specs.Buffer.{Wrote, Listed};
+
+use records::refusal::Refusal;
+
+// The first `at` bytes are put. A piece that does not fit is counted, and not written.
+#[derive(Drop)]
+pub(crate) struct Page<'a> {
+    out: &'a mut [u8],
+    at: usize,
+}
+
+impl Page<'_> {
+    fn put(&mut self, bytes: &[u8])
+        ensures { Wrote self.old bytes.now self.new }
+    {
+        let end = self.at.saturating_add(bytes.len());
+        if end <= self.out.len() {
+            self.out[self.at..end].copy_from_slice(bytes);
+        }
+        self.at = end;
+    }
+
+    // The digits of n.
+    fn put_number(&mut self, n: u64)
+        ensures { Wrote self.old (numeral n) self.new }
+    {
+        if n >= 10 {
+            self.put_number(n / 10);
+        }
+        self.put(&[b'0' + (n % 10) as u8]);
+    }
+
+    // A word, the numbers with a blank before each, and the line's end.
+    pub(crate) fn put_row(&mut self, word: &[u8], numbers: &[u64])
+        ensures { Wrote self.old (row word.now numbers.now) self.new }
+    {
+        self.put(word);
+        for n in numbers {
+            self.put(b" ");
+            self.put_number(*n);
+        }
+        self.put(b"\n");
+    }
+}
+
+// What is written as lines, and how many bytes always suffice for them.
+pub(crate) trait Listing {
+    ghost lines: { Self → List Line };
+
+    ghost most: { Self → ℕ };
+
+    fn put(&self, page: &mut Page)
+        ensures { Listed page.old (lines self.now) page.new (most self.now) };
+}
+
+// How many bytes the lines have.
+fn length_of<T: Listing>(listing: &T) -> usize
+    requires { T.most listing.now < 2 ^ 32 }
+    ensures length { result ≡ length (text (T.lines listing.now)) }
+    ensures most { result ≤ T.most listing.now }
+{
+    let mut nowhere = [0u8; 0];
+    let mut page = Page {
+        out: &mut nowhere,
+        at: 0,
+    };
+    listing.put(&mut page);
+    page.at
+}
+
+// The lines at the front of a buffer, and their length, or the length that they need.
+pub(crate) fn fill<T: Listing>(out: &mut [u8], listing: &T) -> Result<usize, Refusal>
+    requires { T.most listing.now < 2 ^ 32 }
+    ensures lists { record { result = result; buffer = out.new } ≡ written out.old
+        (text (T.lines listing.now)) }
+    ensures within { IfOk result (λ n. n ≤ length out.old) }
+    ensures heard { MatchResult result (λ n. read_lines (take n out.new) ≡ some (T.lines listing.now))
+        (λ e. Unit {0}) }
+    ensures fits { T.most listing.now ≤ length out.old → is_ok result ≡ true }
+{
+    let needed = length_of(listing);
+    if out.len() < needed {
+        return Err(Refusal::BufferShort(needed));
+    }
+    let mut page = Page { out, at: 0 };
+    listing.put(&mut page);
+    Ok(page.at)
+}
