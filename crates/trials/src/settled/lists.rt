@@ -9,6 +9,7 @@ ghost use Rattle.trials.specs.View.{settled_counts};
 
 use super::Settled;
 use crate::firsts::front;
+use listing::branch::Branch;
 use listing::line::Line;
 use listing::{list_line, list_open};
 use records::refusal::Refusal;
@@ -25,10 +26,13 @@ impl Settled {
         ensures within { IfOk result (λ n. n ≤ length out.old) }
         ensures fits { 24323 ≤ length out.old → is_ok result ≡ true }
     {
-        let representatives = front(stores.representatives, self.names as usize);
-        let facts = front(stores.facts, self.facts as usize);
-        let terms = front(stores.terms, self.terms as usize);
-        list_open(out, self.granted, representatives, facts, terms)
+        let branch = Branch {
+            granted: self.granted,
+            representatives: front(stores.representatives, usize::from(self.names)),
+            facts: front(stores.facts, usize::from(self.facts)),
+            terms: front(stores.terms, usize::from(self.terms)),
+        };
+        list_open(out, &branch)
     }
 
     // The listing by the verdict, from stores that are large enough.
