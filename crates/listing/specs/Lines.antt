@@ -1,7 +1,7 @@
 -- The lines that values of the code stand for, and how long each is at most.
 use Rattle.std.specs.Prelude.{ℕ, cond, List, [], ◌∷◌, take, Some, None, Option, nat_lt}
 use Rattle.meaning.specs.Text.{Line, closed, opened, name, inside, refused}
-use Rattle.listing.specs.declared.line.Tuple.{Tuple}
+use Rattle.listing.specs.declared.line.Entry.{Entry}
 use Rattle.listing.specs.declared.line.Line as code
 use Rattle.listing.specs.declared.line.Line.TheVariants.{Closed, Opened, Name, In, Refused}
 
@@ -10,7 +10,7 @@ abbrev pub shown : code.Line → Line
 shown (Closed g) = closed g
 shown (Opened g) = opened g
 shown (Name e r) = name e r
-shown (In t) = inside t.term (take t.arity (t.a ∷ t.b ∷ t.c ∷ t.d ∷ []))
+shown (In e) = inside e.term (take e.arity (e.tuple.a ∷ e.tuple.b ∷ e.tuple.c ∷ e.tuple.d ∷ []))
 shown (Refused n r d) = refused n r d
 
 -- How many bytes always suffice for it.
@@ -18,7 +18,7 @@ abbrev pub most_of : code.Line → ℕ
 most_of (Closed g) = 18
 most_of (Opened g) = 16
 most_of (Name e r) = 13
-most_of (In t) = 23
+most_of (In e) = 23
 most_of (Refused n r d) = 44
 
 -- How many bytes always suffice for the lines of a model after g granted records: 10 names with one digit, 54
@@ -26,7 +26,7 @@ most_of (Refused n r d) = 44
 abbrev pub open_most : ℕ → ℕ
 open_most g = cond (nat_lt 1000000 g) 24326 24323
 
--- The line of a tuple, where there is one.
-abbrev pub tuple_lines : Option Tuple → List Line
-tuple_lines None = []
-tuple_lines (Some t) = shown (In t) ∷ []
+-- The line of an entry, where there is one.
+abbrev pub entry_lines : Option Entry → List Line
+entry_lines None = []
+entry_lines (Some e) = shown (In e) ∷ []

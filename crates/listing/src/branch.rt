@@ -6,11 +6,13 @@ ghost use Rattle.meaning.specs.Mixes.{name_lines};
 ghost use Rattle.meaning.specs.Text.{text};
 ghost use Rattle.calls.specs.Listing.{fact_lines, open_lines};
 ghost use Rattle.listing.specs.Buffer.{Wrote};
-ghost use Rattle.listing.specs.Lines.{tuple_lines, open_most};
+ghost use Rattle.listing.specs.Lines.{entry_lines, open_most};
 
-use super::line::{Line, Tuple};
+use super::line::{Entry, Line};
 use super::page::{Listing, Page};
+use records::kinds::{Form, Operation};
 use records::rows::{Fact, TermRow};
+use records::tuple::Tuple;
 
 // What the listing of a model tells: how many records were granted, the representative of each name, the facts
 // and the terms.
@@ -37,20 +39,22 @@ impl Branch<'_> {
 
     // What a fact puts into a variable, names by representative: nothing, unless it is a positive member of a
     // term that there is and that is a variable.
-    fn tuple(&self, f: Fact) -> Option<Tuple>
-        ensures { fact_lines self.now.representatives.now self.now.terms.now f ≡ tuple_lines result }
+    fn entry(&self, fact: Fact) -> Option<Entry>
+        ensures { fact_lines self.now.representatives.now self.now.terms.now fact ≡ entry_lines result }
     {
-        let row = self.terms.get(usize::from(f.term))?;
-        if f.form != 1 || !f.positive || row.op != 0 {
+        let row = self.terms.get(usize::from(fact.term))?;
+        if !fact.affirms(Form::Member) || !row.is(Operation::Variable) {
             return None;
         }
-        Some(Tuple {
-            term: f.term,
+        Some(Entry {
+            term: fact.term,
             arity: row.arity,
-            a: self.representative(f.a),
-            b: self.representative(f.b),
-            c: self.representative(f.c),
-            d: self.representative(f.d),
+            tuple: Tuple {
+                a: self.representative(fact.a),
+                b: self.representative(fact.b),
+                c: self.representative(fact.c),
+                d: self.representative(fact.d),
+            },
         })
     }
 }
@@ -65,9 +69,9 @@ impl Listing for Branch<'_> {
         for (name, representative) in self.representatives.iter().enumerate() {
             Line::Name(name as u8, *representative).put(page);
         }
-        for f in self.facts {
-            if let Some(tuple) = self.tuple(*f) {
-                Line::In(tuple).put(page);
+        for fact in self.facts {
+            if let Some(entry) = self.entry(*fact) {
+                Line::In(entry).put(page);
             }
         }
     }

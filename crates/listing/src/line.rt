@@ -3,16 +3,14 @@ ghost use Rattle.std.specs.Prelude.{◌≡◌, ◌≤◌, [], ◌∷◌, take};
 ghost use Rattle.listing.specs.Lines.{shown, most_of};
 
 use super::page::{Listing, Page};
+use records::tuple::Tuple;
 
-// The first `arity` of four names, in the variable `term`.
+// The first `arity` names of a tuple, in the variable `term`.
 #[derive(Clone, Copy)]
-pub struct Tuple {
+pub struct Entry {
     pub term: u8,
     pub arity: u8,
-    pub a: u8,
-    pub b: u8,
-    pub c: u8,
-    pub d: u8,
+    pub tuple: Tuple,
 }
 
 // A line of a listing, or of a refusal.
@@ -25,18 +23,29 @@ pub enum Line {
     // a name, with its representative
     Name(u8, u8),
     // a tuple in a variable
-    In(Tuple),
+    In(Entry),
     // REFUSED, with the refusal's number, the record and the detail
     Refused(u8, u32, u64),
 }
 
-// How many numbers the line of a tuple has: its term, and its names. An arity above 4 counts as 4.
-fn places(t: Tuple) -> usize
-    ensures most { result ≤ 5 }
-    ensures those { take result (t.term ∷ t.a ∷ t.b ∷ t.c ∷ t.d ∷ []) ≡
-        t.term ∷ take t.arity (t.a ∷ t.b ∷ t.c ∷ t.d ∷ []) }
-{
-    1 + usize::from(t.arity.min(4))
+impl Entry {
+    // The numbers of its line: the term, and the names.
+    fn numbers(self) -> [u64; 5]
+        ensures { result ≡
+            self.term ∷ self.tuple.a ∷ self.tuple.b ∷ self.tuple.c ∷ self.tuple.d ∷ [] }
+    {
+        let Tuple { a, b, c, d } = self.tuple;
+        [self.term, a, b, c, d].map(u64::from)
+    }
+
+    // How many of them are shown. An arity above 4 counts as 4.
+    fn places(self) -> usize
+        ensures most { result ≤ 5 }
+        ensures those { take result (self.term ∷ self.tuple.a ∷ self.tuple.b ∷ self.tuple.c ∷ self.tuple.d ∷ []) ≡
+            self.term ∷ take self.arity (self.tuple.a ∷ self.tuple.b ∷ self.tuple.c ∷ self.tuple.d ∷ []) }
+    {
+        1 + usize::from(self.arity.min(4))
+    }
 }
 
 impl Listing for Line {
@@ -52,16 +61,7 @@ impl Listing for Line {
             Line::Name(name, representative) => {
                 page.put_row(b"name", &[u64::from(name), u64::from(representative)])
             }
-            Line::In(t) => {
-                let numbers = [
-                    u64::from(t.term),
-                    u64::from(t.a),
-                    u64::from(t.b),
-                    u64::from(t.c),
-                    u64::from(t.d),
-                ];
-                page.put_row(b"in", &numbers[..places(t)])
-            }
+            Line::In(entry) => page.put_row(b"in", &entry.numbers()[..entry.places()]),
             Line::Refused(number, record, detail) => page.put_row(
                 b"REFUSED",
                 &[u64::from(number), u64::from(record), detail],

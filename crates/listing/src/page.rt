@@ -26,7 +26,8 @@ impl Page<'_> {
         self.at = end;
     }
 
-    // The digits of n.
+    // The digits of n. `write!` may answer an error, of which its contract says nothing: by it the proof didn't
+    // close.
     fn put_number(&mut self, n: u64)
         ensures { Wrote self.old (numeral n) self.new }
     {

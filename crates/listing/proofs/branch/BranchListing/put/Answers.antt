@@ -18,15 +18,15 @@ loop-name-preserved c =
     let few : e < 64 = omega (arith, c.args.self.now.few_names) in
     listed_as _ _ (names_next rs e c.loop-name-test.true) (omega arith) (listed_more _ _ _ (11 + ((e + 1 - 10) - (e - 10))) c.loop-name.invariant (record { wrote = c.put-in-loop-name.ensures.wrote; most = name_most e (get_or rs e 0) few (omega arith) }))
 
-pub loop-f-preserved : goal.loop-f-preserved
-loop-f-preserved c =
+pub loop-fact-preserved : goal.loop-fact-preserved
+loop-fact-preserved c =
     let b = c.args.self.now in
     let lines = fact_lines b.representatives.now b.terms.now in
-    let m = 23 * c.loop-f.f-index in
-    let t : m + 23 ≤ 23 * (c.loop-f.f-index + 1) = omega arith in
-    elim c.match-tuple.branch [
-      | in-Some w ↦ rw w.page-is (listed_next lines b.facts.now c.loop-f.f-index no_fact m 23 _ t c.loop-f-test.true c.loop-f.invariant (listed_as _ 23 (sym w.in-Some.ensures) (omega arith) w.put-in-Some.ensures))
-      | in_default w ↦ rw w.page-is (listed_next lines b.facts.now c.loop-f.f-index no_fact m 23 _ t c.loop-f-test.true c.loop-f.invariant (listed_as _ 23 (sym w.in_default.ensures) (omega arith) (listed_none _ 23)))
+    let m = 23 * c.loop-fact.fact-index in
+    let t : m + 23 ≤ 23 * (c.loop-fact.fact-index + 1) = omega arith in
+    elim c.match-entry.branch [
+      | in-Some w ↦ rw w.page-is (listed_next lines b.facts.now c.loop-fact.fact-index no_fact m 23 _ t c.loop-fact-test.true c.loop-fact.invariant (listed_as _ 23 (sym w.in-Some.ensures) (omega arith) w.put-in-Some.ensures))
+      | in_default w ↦ rw w.page-is (listed_next lines b.facts.now c.loop-fact.fact-index no_fact m 23 _ t c.loop-fact-test.true c.loop-fact.invariant (listed_as _ 23 (sym w.in_default.ensures) (omega arith) (listed_none _ 23)))
     ]
 
 pub returns : goal.returns
@@ -36,5 +36,5 @@ returns c =
     let k = length b.facts.now in
     let o : Listed c.args.page.now (opened b.granted ∷ []) c.put.new.page (length (text (opened b.granted ∷ []))) = record { wrote = c.put.ensures.wrote; most = omega arith } in
     let names = listed_as _ (11 * n + (n - 10)) (ap (λ l. name_lines l 0) (take_all c.loop-name.name b.representatives.now c.loop-name-test.false)) (omega arith) c.loop-name.invariant in
-    let facts = listed_as _ (23 * k) (ap (flat_map (fact_lines b.representatives.now b.terms.now)) (take_all c.loop-f.f-index b.facts.now c.loop-f-test.false)) (omega arith) c.loop-f.invariant in
+    let facts = listed_as _ (23 * k) (ap (flat_map (fact_lines b.representatives.now b.terms.now)) (take_all c.loop-fact.fact-index b.facts.now c.loop-fact-test.false)) (omega arith) c.loop-fact.invariant in
     listed_as _ _ refl (open_total b.granted n k (omega arith) b.few_names b.few_facts) (listed_more _ _ _ _ o (listed_more _ _ _ _ names facts))

@@ -14,8 +14,8 @@ returns-in-Name c = record { wrote = search rules; most = line_most _ _ c.in-Nam
 
 pub returns-in-In : goal.returns-in-In
 returns-in-In c =
-    let t = c.in-In.t in
-    record { wrote = search rules; most = line_most _ _ c.in-In.is (row_most (codes "in") (t.term ∷ take t.arity (t.a ∷ t.b ∷ t.c ∷ t.d ∷ [])) (3 ∷ 3 ∷ 3 ∷ 3 ∷ 3 ∷ []) (omega arith, omega arith, digits_take t.arity (t.a ∷ t.b ∷ t.c ∷ t.d ∷ []) (3 ∷ 3 ∷ 3 ∷ 3 ∷ []) (omega arith, omega arith, (omega arith, omega arith, (omega arith, omega arith, (omega arith, omega arith, tt)))))) }
+    let e = c.in-In.entry in
+    record { wrote = search rules; most = line_most _ _ c.in-In.is (row_most (codes "in") (e.term ∷ take e.arity (e.tuple.a ∷ e.tuple.b ∷ e.tuple.c ∷ e.tuple.d ∷ [])) (3 ∷ 3 ∷ 3 ∷ 3 ∷ 3 ∷ []) (omega arith, omega arith, digits_take e.arity (e.tuple.a ∷ e.tuple.b ∷ e.tuple.c ∷ e.tuple.d ∷ []) (3 ∷ 3 ∷ 3 ∷ 3 ∷ []) (omega arith, omega arith, (omega arith, omega arith, (omega arith, omega arith, (omega arith, omega arith, tt)))))) }
 
 pub returns-in-Refused : goal.returns-in-Refused
 returns-in-Refused c = record { wrote = search rules; most = line_most _ _ c.in-Refused.is (row_most (codes "REFUSED") (c.in-Refused.number ∷ c.in-Refused.«record» ∷ c.in-Refused.detail ∷ []) (3 ∷ 10 ∷ 20 ∷ []) (omega arith, omega arith, (omega arith, omega arith, (omega arith, omega arith, tt)))) }
