@@ -1,3 +1,3 @@
--- Writes one after another, lines piece by piece, and what a call that writes into a lent buffer answers.
-mod Overs
+-- What is put on a page piece after piece, and how long lines are at most.
+mod Pages
 mod Pieces

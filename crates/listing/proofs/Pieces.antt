@@ -1,16 +1,17 @@
 -- The lists of lines piece by piece, and how long a line is at most.
-use Rattle.std.proofs.Common.{◌≡◌, ℕ, zero, suc, ◌+◌, ◌-◌, ◌*◌, ◌^◌, ◌<◌, ◌≤◌, ltb, true, List, [], ◌∷◌, ◌++◌, map, length, get_or, take, codes, sym, ap, ◌∙◌, append-nil, inl, inr, arith, length-append}
+use Rattle.std.proofs.Common.{◌≡◌, ℕ, zero, suc, ◌+◌, ◌-◌, ◌*◌, ◌^◌, ◌<◌, ◌≤◌, ltb, true, List, [], ◌∷◌, ◌++◌, map, length, get_or, take, subst, sym, ap, ◌∙◌, append-nil, inl, inr, arith, rules, length-append}
 use Rattle.std.specs.List.{flat_map}
 use Rattle.std.proofs.lemmas.Bool.{cases_lt, lt-ltb, le-ltb, cond-true, cond-false}
 use Rattle.std.proofs.lemmas.List.{take_more, length-take-le, take-map}
-use Rattle.meaning.specs.Text.{opened, name, inside, numeral, spaced, row, line, text}
+use Rattle.meaning.specs.Text.{Line, opened, name, inside, numeral, word, numbers, spaced, line, text}
 use Rattle.meaning.specs.Mixes.{name_lines}
 use Rattle.meaning.specs.Model.{rep}
 use Rattle.meaning.proofs.Numerals.{length-numeral-le}
 use Rattle.rules.specs.Looked.{row_at}
 use Rattle.calls.specs.Reading.{four, tuple_of}
 use Rattle.calls.specs.Listing.{is_listed, fact_lines}
-use Rattle.listing.specs.Lines.{open_most}
+use Rattle.listing.specs.Lines.{shown, most_of, open_most}
+use Rattle.listing.specs.declared.line.Line as code
 use Rattle.records.specs.declared.rows.TermRow.{TermRow}
 use Rattle.records.specs.declared.rows.Fact.{Fact}
 
@@ -46,8 +47,14 @@ spaced_most [] ks h = omega arith
 spaced_most (n ∷ ns) [] h = elim h [ ]
 spaced_most (n ∷ ns) (k ∷ ks) h = omega (arith, length-append (numeral n) (flat_map spaced ns), length-numeral-le k n h.0 h.1, spaced_most ns ks h.2)
 
-pub row_most : (w ns ks : List ℕ) → Digits ns ks → length (row w ns) ≤ length w + (1 + width ks)
-row_most w ns ks h = omega (arith, length-append (w ++ flat_map spaced ns) (10 ∷ []), length-append w (flat_map spaced ns), spaced_most ns ks h)
+pub line_most : (l : Line) (ks : List ℕ) → Digits (numbers l) ks → length (text (l ∷ [])) ≤ length (word l) + (1 + width ks)
+line_most l ks h =
+    let ns = flat_map spaced (numbers l) in
+    omega (arith, ap length (append-nil (line l)), length-append (word l ++ ns) (10 ∷ []), length-append (word l) ns, spaced_most (numbers l) ks h)
+
+-- the same from the variant to the value
+pub shown_most : (s v : code.Line) (ks : List ℕ) → s ≡ v → Digits (numbers (shown v)) ks → length (word (shown v)) + (1 + width ks) ≤ most_of v → length (text (shown s ∷ [])) ≤ most_of s
+shown_most s v ks e d h = subst (λ u. length (text (shown u ∷ [])) ≤ most_of u) (sym e) (omega (arith, line_most (shown v) ks d, h))
 
 -- the first k of them
 pub digits_take : (k : ℕ) (ns ks : List ℕ) → Digits ns ks → Digits (take k ns) ks
@@ -59,19 +66,17 @@ digits_take (suc k) (n ∷ ns) (j ∷ ks) h = (h.0, h.1, digits_take k ns ks h.2
 -- the first ten names have one digit
 pub name_most : (e r : ℕ) → e < 64 → r < 256 → length (text (name e r ∷ [])) ≤ 11 + ((e + 1 - 10) - (e - 10))
 name_most e r h k =
-    let l = ap length (append-nil (line (name e r))) in
     elim (cases_lt e 10) [
-      | inl s ↦ omega (arith, l, row_most (codes "name") (e ∷ r ∷ []) (1 ∷ 3 ∷ []) (omega arith, omega arith, (omega arith, omega arith, tt)))
-      | inr s ↦ omega (arith, l, row_most (codes "name") (e ∷ r ∷ []) (2 ∷ 3 ∷ []) (omega arith, omega arith, (omega arith, omega arith, tt)))
+      | inl s ↦ omega (arith, line_most (name e r) (1 ∷ 3 ∷ []) (search rules))
+      | inr s ↦ omega (arith, line_most (name e r) (2 ∷ 3 ∷ []) (search rules))
     ]
 
 -- a million has seven digits
 pub open_total : (g n f : ℕ) → g < 2 ^ 32 → n ≤ 64 → f ≤ 1024 → length (text (opened g ∷ [])) + ((11 * n + (n - 10)) + 23 * f) ≤ open_most g
 open_total g n f h a b =
-    let l = ap length (append-nil (line (opened g))) in
     elim (cases_lt 1000000 g) [
-      | inl s ↦ omega (arith, l, row_most (codes "OPEN") (g ∷ []) (10 ∷ []) (omega arith, omega arith, tt), cond-true {A = ℕ} (ltb 1000000 g) 24326 24323 (lt-ltb 1000000 g s))
-      | inr s ↦ omega (arith, l, row_most (codes "OPEN") (g ∷ []) (7 ∷ []) (omega arith, omega arith, tt), cond-false {A = ℕ} (ltb 1000000 g) 24326 24323 (le-ltb 1000000 g s))
+      | inl s ↦ omega (arith, line_most (opened g) (10 ∷ []) (search rules), cond-true {A = ℕ} (ltb 1000000 g) 24326 24323 (lt-ltb 1000000 g s))
+      | inr s ↦ omega (arith, line_most (opened g) (7 ∷ []) (search rules), cond-false {A = ℕ} (ltb 1000000 g) 24326 24323 (le-ltb 1000000 g s))
     ]
 
 -- the line of a fact that is listed

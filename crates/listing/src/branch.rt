@@ -1,11 +1,7 @@
 // The lines of a branch: its names with their representatives, and the tuples that facts put into variables.
 ghost use Rattle.std.specs.Prelude.{◌≡◌, ◌≤◌, length};
-ghost use Rattle.std.specs.List.{flat_map};
 ghost use Rattle.meaning.specs.Model.{rep};
-ghost use Rattle.meaning.specs.Mixes.{name_lines};
-ghost use Rattle.meaning.specs.Text.{text};
 ghost use Rattle.calls.specs.Listing.{fact_lines, open_lines};
-ghost use Rattle.listing.specs.Buffer.{Wrote};
 ghost use Rattle.listing.specs.Lines.{entry_lines, open_most};
 
 use super::line::{Entry, Line};

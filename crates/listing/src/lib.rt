@@ -25,11 +25,13 @@ use records::refusal::Refusal;
 // records, whatever the stores hold.
 pub fn list_open(out: &mut [u8], branch: &Branch) -> Result<usize, Refusal>
     ensures lists { record { result = result; buffer = out.new } ≡ written out.old
-        (text (open_lines branch.now.granted branch.now.representatives.now branch.now.terms.now branch.now.facts.now)) }
+        (text (open_lines branch.now.granted branch.now.representatives.now branch.now.terms.now
+        branch.now.facts.now)) }
     ensures within { IfOk result (λ n. n ≤ length out.old) }
     ensures heard { MatchResult result
         (λ n. read_lines (take n out.new) ≡
-        some (open_lines branch.now.granted branch.now.representatives.now branch.now.terms.now branch.now.facts.now))
+        some (open_lines branch.now.granted branch.now.representatives.now branch.now.terms.now
+        branch.now.facts.now))
         (λ e. Unit {0}) }
     ensures fits { branch.now.granted ≤ 1000000 → 24323 ≤ length out.old → is_ok result ≡ true }
 {

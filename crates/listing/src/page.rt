@@ -1,4 +1,4 @@
-// Text put piece after piece into a lent buffer.
+// Text put piece after piece into a lent buffer, and what is put there.
 ghost use Rattle.std.specs.Prelude.{◌≡◌, ℕ, ◌^◌, ◌<◌, ◌≤◌, true, List, length, take, is_ok, IfOk, MatchResult};
 ghost use Rattle.std.proofs.Math.Option.{some};
 ghost use Rattle.meaning.specs.Text.{Line, numeral, row, text};
@@ -8,7 +8,7 @@ ghost use Rattle.listing.specs.Buffer.{Wrote, Listed};
 
 use records::refusal::Refusal;
 
-// The first `at` bytes are put. A piece that does not fit is counted, and not written.
+// A lent buffer, and the place of the next piece. A piece that does not fit is counted, and not written.
 #[derive(Drop)]
 pub(crate) struct Page<'a> {
     out: &'a mut [u8],
@@ -50,7 +50,7 @@ impl Page<'_> {
     }
 }
 
-// What is written as lines, and how many bytes always suffice for them.
+// What is put as lines, and how many bytes always suffice for them.
 pub(crate) trait Listing {
     ghost lines: { Self → List Line };
 
@@ -66,9 +66,8 @@ fn length_of<T: Listing>(listing: &T) -> usize
     ensures length { result ≡ length (text (T.lines listing.now)) }
     ensures most { result ≤ T.most listing.now }
 {
-    let mut nowhere = [0u8; 0];
     let mut page = Page {
-        out: &mut nowhere,
+        out: &mut [],
         at: 0,
     };
     listing.put(&mut page);

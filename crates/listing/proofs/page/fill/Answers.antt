@@ -1,5 +1,5 @@
 use Rattle.std.proofs.Common.{rules}
-use Rattle.listing.proofs.Overs.{heard}
+use Rattle.listing.proofs.Pages.{heard}
 use Rattle.listing.proofs.page.fill.Goals as goal
 
 pub returns-clause-heard : goal.returns-clause-heard

@@ -6,7 +6,7 @@ use Rattle.meaning.specs.Mixes.{name_lines}
 use Rattle.calls.specs.Listing.{fact_lines}
 use Rattle.rules.specs.Facts.{no_fact}
 use Rattle.listing.specs.Buffer.{Listed}
-use Rattle.listing.proofs.Overs.{listed_none, listed_more, listed_as, listed_next}
+use Rattle.listing.proofs.Pages.{listed_none, listed_more, listed_as, listed_next}
 use Rattle.listing.proofs.Pieces.{names_next, name_most, open_total}
 use Rattle.listing.proofs.branch.BranchListing.put.Goals as goal
 use Rattle.listing.proofs.branch.BranchListing.put.Goals.{in-Some, in_default}

@@ -1,21 +1,20 @@
-use Rattle.std.proofs.Common.{[], ◌∷◌, take, codes, arith, rules}
-use Rattle.listing.proofs.Overs.{line_most}
-use Rattle.listing.proofs.Pieces.{row_most, digits_take}
+use Rattle.std.proofs.Common.{[], ◌∷◌, arith, rules}
+use Rattle.listing.proofs.Pieces.{shown_most, digits_take}
 use Rattle.listing.proofs.line.LineListing.put.Goals as goal
 
 pub returns-in-Closed : goal.returns-in-Closed
-returns-in-Closed c = record { wrote = search rules; most = line_most _ _ c.in-Closed.is (row_most (codes "CLOSED") (c.in-Closed.granted ∷ []) (10 ∷ []) (omega arith, omega arith, tt)) }
+returns-in-Closed c = record { wrote = search rules; most = shown_most _ _ (10 ∷ []) c.in-Closed.is (search rules) (omega arith) }
 
 pub returns-in-Opened : goal.returns-in-Opened
-returns-in-Opened c = record { wrote = search rules; most = line_most _ _ c.in-Opened.is (row_most (codes "OPEN") (c.in-Opened.granted ∷ []) (10 ∷ []) (omega arith, omega arith, tt)) }
+returns-in-Opened c = record { wrote = search rules; most = shown_most _ _ (10 ∷ []) c.in-Opened.is (search rules) (omega arith) }
 
 pub returns-in-Name : goal.returns-in-Name
-returns-in-Name c = record { wrote = search rules; most = line_most _ _ c.in-Name.is (row_most (codes "name") (c.in-Name.name ∷ c.in-Name.representative ∷ []) (3 ∷ 3 ∷ []) (omega arith, omega arith, (omega arith, omega arith, tt))) }
+returns-in-Name c = record { wrote = search rules; most = shown_most _ _ (3 ∷ 3 ∷ []) c.in-Name.is (search rules) (omega arith) }
 
 pub returns-in-In : goal.returns-in-In
 returns-in-In c =
-    let e = c.in-In.entry in
-    record { wrote = search rules; most = line_most _ _ c.in-In.is (row_most (codes "in") (e.term ∷ take e.arity (e.tuple.a ∷ e.tuple.b ∷ e.tuple.c ∷ e.tuple.d ∷ [])) (3 ∷ 3 ∷ 3 ∷ 3 ∷ 3 ∷ []) (omega arith, omega arith, digits_take e.arity (e.tuple.a ∷ e.tuple.b ∷ e.tuple.c ∷ e.tuple.d ∷ []) (3 ∷ 3 ∷ 3 ∷ 3 ∷ []) (omega arith, omega arith, (omega arith, omega arith, (omega arith, omega arith, (omega arith, omega arith, tt)))))) }
+    let u = c.in-In.entry.tuple in
+    record { wrote = search rules; most = shown_most _ _ (3 ∷ 3 ∷ 3 ∷ 3 ∷ 3 ∷ []) c.in-In.is (omega arith, omega arith, digits_take c.in-In.entry.arity (u.a ∷ u.b ∷ u.c ∷ u.d ∷ []) (3 ∷ 3 ∷ 3 ∷ 3 ∷ []) (search rules)) (omega arith) }
 
 pub returns-in-Refused : goal.returns-in-Refused
-returns-in-Refused c = record { wrote = search rules; most = line_most _ _ c.in-Refused.is (row_most (codes "REFUSED") (c.in-Refused.number ∷ c.in-Refused.«record» ∷ c.in-Refused.detail ∷ []) (3 ∷ 10 ∷ 20 ∷ []) (omega arith, omega arith, (omega arith, omega arith, (omega arith, omega arith, tt)))) }
+returns-in-Refused c = record { wrote = search rules; most = shown_most _ _ (3 ∷ 10 ∷ 20 ∷ []) c.in-Refused.is (search rules) (omega arith) }

@@ -2,7 +2,7 @@ use Rattle.std.proofs.Common.{◌≡◌, ◌+◌, ◌%◌, [], ◌∷◌, subst,
 use Rattle.meaning.specs.Text.{numeral}
 use Rattle.meaning.proofs.Numerals.{numeral_step, numeral_digit}
 use Rattle.listing.specs.Buffer.{Wrote}
-use Rattle.listing.proofs.Overs.{wrote_more, wrote_as}
+use Rattle.listing.proofs.Pages.{wrote_more, wrote_as}
 use Rattle.listing.proofs.page.Page.+put_number.Goals as goal
 use Rattle.listing.proofs.page.Page.+put_number.Goals.{then-n-ge10, else-n-ge10}
 

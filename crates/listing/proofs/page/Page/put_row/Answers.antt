@@ -2,7 +2,7 @@ use Rattle.std.proofs.Common.{ap}
 use Rattle.std.specs.List.{flat_map}
 use Rattle.std.proofs.lemmas.List.{take_all}
 use Rattle.meaning.specs.Text.{spaced}
-use Rattle.listing.proofs.Overs.{wrote_more, wrote_as, pieces_next}
+use Rattle.listing.proofs.Pages.{wrote_more, wrote_as, pieces_next}
 use Rattle.listing.proofs.page.Page.put_row.Goals as goal
 
 pub loop-n-preserved : goal.loop-n-preserved

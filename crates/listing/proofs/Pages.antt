@@ -1,5 +1,5 @@
 -- Pieces put on a page one after another, and lines after lines.
-use Rattle.std.proofs.Common.{◌≡◌, ℕ, ◌+◌, ◌<◌, ◌≤◌, List, [], ◌∷◌, ◌++◌, length, get_or, take, drop, subst, sym, refl, ap, ◌∙◌, append_assoc, append-nil, add-zero, arith, length-append}
+use Rattle.std.proofs.Common.{◌≡◌, ℕ, ◌+◌, ◌<◌, ◌≤◌, List, [], ◌++◌, length, get_or, take, drop, subst, sym, refl, ap, ◌∙◌, append_assoc, append-nil, add-zero, arith, length-append}
 use mathlib.Core.Option.{some}
 use Rattle.std.specs.List.{flat_map}
 use Rattle.std.proofs.lemmas.List.{drop-drop, take_more, flat_map_more}
@@ -8,8 +8,6 @@ use Rattle.meaning.specs.Text.{Line, text, line}
 use Rattle.meaning.specs.Reading.{read_lines}
 use Rattle.meaning.proofs.ReadBack.{reads_back}
 use Rattle.listing.specs.Buffer.{Filled, Wrote, Listed}
-use Rattle.listing.specs.Lines.{shown, most_of}
-use Rattle.listing.specs.declared.line.Line as code
 use Rattle.listing.specs.declared.page.Page.{Page}
 
 filled_none : (xs : List ℕ) (at : ℕ) → Filled xs at [] xs at
@@ -45,10 +43,6 @@ pieces_next f xs i d h = flat_map_more f [] (take i xs) (get_or xs i d) ∙ sym 
 -- no lines
 pub listed_none : (x : Page) (m : ℕ) → Listed x [] x m
 listed_none x m = record { wrote = record { counted = λ h. sym (add-zero x.at); filled = λ h. filled_none x.out.now x.at; room = refl; same = refl }; most = omega arith }
-
--- how long one line is at most, from the variant to the value
-pub line_most : (s v : code.Line) → s ≡ v → length (line (shown v)) ≤ most_of v → length (text (shown s ∷ [])) ≤ most_of s
-line_most s v e h = subst (λ u. length (text (shown u ∷ [])) ≤ most_of u) (sym e) (omega (arith, ap length (append-nil (line (shown v))), h))
 
 -- lines after lines
 pub listed_more : {x y z : Page} (ls ms : List Line) (m k : ℕ) → Listed x ls y m → Listed y ms z k → Listed x (ls ++ ms) z (m + k)
