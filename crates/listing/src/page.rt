@@ -6,6 +6,7 @@ ghost use Rattle.meaning.specs.Reading.{read_lines};
 ghost use Rattle.calls.specs.Listing.{written};
 ghost use Rattle.listing.specs.Buffer.{Wrote, Listed};
 
+use itoa::Buffer;
 use records::refusal::Refusal;
 
 // A lent buffer, and the place of the next piece. A piece that does not fit is counted, and not written.
@@ -26,15 +27,11 @@ impl Page<'_> {
         self.at = end;
     }
 
-    // The digits of n. `write!` may answer an error, of which its contract says nothing: by it the proof didn't
-    // close.
+    // The digits of n.
     fn put_number(&mut self, n: u64)
         ensures { Wrote self.old (numeral n) self.new }
     {
-        if n >= 10 {
-            self.put_number(n / 10);
-        }
-        self.put(&[b'0' + (n % 10) as u8]);
+        self.put(Buffer::new().format(n).as_bytes());
     }
 
     // A word, the numbers with a blank before each, and the line's end.
