@@ -1,11 +1,10 @@
 // The tests of a term row and of a constraint's fact on plain numbers, and the arities that they ask for.
-ghost use Rattle.std.specs.Prelude.{◌≡◌, take};
+ghost use Rattle.std.specs.Prelude.{◌≡◌};
 ghost use Rattle.rules.specs.Looked.{row_at};
 ghost use Rattle.records.specs.Reading.{fact_said};
 ghost use Rattle.calls.specs.Tests.{row_tested, fact_tested, place_ok};
 
 use records::rows::{ConstraintRow, Fact, TermRow};
-use stores::trail::entry;
 
 // Place i of a tuple of arity k holds a name below n, or zero past the arity.
 fn place(n: u8, k: u8, i: u8, e: u8) -> bool
@@ -26,7 +25,7 @@ pub(crate) fn row_ok(n: u8, t: u8, x: u8, y: u8, row: TermRow) -> bool
                 && place(n, row.arity, 1, row.b)
                 && place(n, row.arity, 2, row.c)
                 && place(n, row.arity, 3, row.d),
-            3 | 4 | 5 => row.a < t
+            3..=5 => row.a < t
                 && x == row.arity
                 && row.b < t
                 && y == row.arity
@@ -35,14 +34,14 @@ pub(crate) fn row_ok(n: u8, t: u8, x: u8, y: u8, row: TermRow) -> bool
             6 => row.a < t && x == row.arity && row.b == 0 && row.c == 0 && row.d == 0,
             7 => row.a < t
                 && row.b < t
-                && row.arity as u16 == x as u16 + y as u16
+                && u16::from(row.arity) == u16::from(x) + u16::from(y)
                 && row.c == 0
                 && row.d == 0,
             8 => row.a < t
                 && row.b < t
                 && 0 < x
                 && 0 < y
-                && row.arity as u16 + 2 == x as u16 + y as u16
+                && u16::from(row.arity) + 2 == u16::from(x) + u16::from(y)
                 && row.c == 0
                 && row.d == 0,
             9 => row.a < t && x == 2 && row.arity == 2 && row.b == 0 && row.c == 0 && row.d == 0,
@@ -82,12 +81,9 @@ pub(crate) fn said(row: ConstraintRow) -> Fact
     }
 }
 
-// The arity of term t among the first `count`, or 0 where there is none.
-pub(crate) fn arity_at(terms: &[TermRow], count: u8, t: u8) -> u8
-    ensures { result ≡ (row_at (take count terms.now) t).arity }
+// The arity of term t of these rows, or 0 where there is none.
+pub(crate) fn arity_at(rows: &[TermRow], t: u8) -> u8
+    ensures { result ≡ (row_at rows.now t).arity }
 {
-    match entry(terms, count as usize, t as usize) {
-        Some(row) => row.arity,
-        None => 0,
-    }
+    rows.get(usize::from(t)).map_or(0, |row| row.arity)
 }

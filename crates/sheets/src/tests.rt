@@ -209,20 +209,11 @@ fn lend(rt: &impl Abort, labels: &mut [u32], full: bool) -> Result<(), Fail> {
         tuples: &mut tuples,
         representatives: &mut representatives,
     };
-    let answer = if full {
+    if full {
         all(rt, &mut stores)
     } else {
         short(rt, &stores)
-    };
-    let Stores {
-        labels: _,
-        terms: _,
-        facts: _,
-        forks: _,
-        tuples: _,
-        representatives: _,
-    } = stores;
-    answer
+    }
 }
 
 #[test]

@@ -4,6 +4,7 @@ use values::tuple::Tuple;
 
 // The six stores, lent anew to every call. The tuple store has a lifetime of its own, so that it can be lent
 // apart from the others.
+#[derive(Drop)]
 pub struct Stores<'a, 'b> {
     pub labels: &'a mut [u32],
     pub terms: &'a mut [TermRow],
