@@ -1,12 +1,12 @@
 use Rattle.std.proofs.Common.{◌<◌, arith}
 use Rattle.stores.specs.View.{held}
-use Rattle.trials.specs.View.{counts}
+use Rattle.trials.specs.View.{counts_of}
 use Rattle.trials.proofs.Acted.{ready, decided_below}
-use Rattle.trials.proofs.trial.Trial.decide.Goals as goal
+use Rattle.trials.proofs.progress.Progress.decide.Goals as goal
 
 pub returns : goal.returns
 returns g c =
-    let t = counts c.args.self.now in
+    let t = counts_of c.args.self.now in
     let h = held c.args.stores.now in
     let K = g.K.Kind.meaning c.args.kind.now in
     let below : t.granted < 1000000 = omega arith in

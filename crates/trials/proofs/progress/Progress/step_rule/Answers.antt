@@ -1,11 +1,11 @@
 use Rattle.stores.specs.View.{held}
-use Rattle.trials.specs.View.{counts}
+use Rattle.trials.specs.View.{counts_of}
 use Rattle.trials.proofs.Acted.{acted}
-use Rattle.trials.proofs.trial.Trial.step_rule.Goals as goal
+use Rattle.trials.proofs.progress.Progress.step_rule.Goals as goal
 
 pub returns : goal.returns
 returns g c =
-    let t = counts c.args.self.now in
+    let t = counts_of c.args.self.now in
     let h = held c.args.stores.now in
     let K = g.K.Kind.meaning c.args.kind.now in
     record {
