@@ -1,10 +1,9 @@
 // The tests of a term row and of a constraint's fact on plain numbers, and the arities that they ask for.
 ghost use Rattle.std.specs.Prelude.{◌≡◌};
 ghost use Rattle.rules.specs.Looked.{row_at};
-ghost use Rattle.records.specs.Reading.{fact_said};
 ghost use Rattle.calls.specs.Tests.{row_tested, fact_tested, place_ok};
 
-use records::rows::{ConstraintRow, Fact, TermRow};
+use records::rows::{Fact, TermRow};
 
 // Place i of a tuple of arity k holds a name below n, or zero past the arity.
 fn place(n: u8, k: u8, i: u8, e: u8) -> bool
@@ -63,21 +62,6 @@ pub(crate) fn fact_ok(m: u8, n: u8, k: u8, l: u8, f: Fact) -> bool
         2 => f.term == 0 && f.a < n && f.b < n && f.c == 0 && f.d == 0,
         3 => f.term < m && f.a < m && k == l && f.b == 0 && f.c == 0 && f.d == 0,
         _ => false,
-    }
-}
-
-// The fact that a constraint row says, where its sign is 0 or 1.
-pub(crate) fn said(row: ConstraintRow) -> Fact
-    ensures { result ≡ fact_said row }
-{
-    Fact {
-        form: row.form,
-        positive: row.sign == 1,
-        term: row.term,
-        a: row.a,
-        b: row.b,
-        c: row.c,
-        d: row.d,
     }
 }
 

@@ -165,23 +165,6 @@ fn short(rt: &impl Abort, stores: &Stores) -> Result<(), Fail> {
 
 // The stores that a test lends, with these labels.
 fn lend(rt: &impl Abort, labels: &mut [u32], full: bool) -> Result<(), Fail> {
-    let row = TermRow {
-        op: 0,
-        arity: 0,
-        a: 0,
-        b: 0,
-        c: 0,
-        d: 0,
-    };
-    let fact = Fact {
-        form: 0,
-        positive: false,
-        term: 0,
-        a: 0,
-        b: 0,
-        c: 0,
-        d: 0,
-    };
     let fork = Fork {
         facts: 0,
         names: 0,
@@ -196,8 +179,8 @@ fn lend(rt: &impl Abort, labels: &mut [u32], full: bool) -> Result<(), Fail> {
         c: 0,
         d: 0,
     };
-    let mut terms = [row; 64];
-    let mut facts = [fact; 1024];
+    let mut terms = [TermRow::default(); 64];
+    let mut facts = [Fact::default(); 1024];
     let mut forks = [fork; 64];
     let mut tuples = [tuple; 4096];
     let mut representatives = [0u8; 64];

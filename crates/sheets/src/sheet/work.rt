@@ -8,12 +8,12 @@ ghost use Rattle.sheets.specs.Rows.{label_row, term_row, constraint_row};
 ghost use Rattle.sheets.specs.View.{filling_of, made};
 
 use super::Sheet;
-use crate::checks::{arity_at, fact_ok, row_ok, said};
+use crate::checks::{arity_at, fact_ok, row_ok};
 use crate::sizes::Sizes;
 use labels::kind::Kind;
 use records::record::RowRecord;
 use records::refusal::Refusal;
-use records::rows::{ConstraintRow, Header, TermRow};
+use records::rows::{ConstraintRow, Fact, Header, TermRow};
 use records::{read_header, read_row};
 use stores::large_enough;
 use stores::lent::Stores;
@@ -170,7 +170,7 @@ impl Sheet {
         ensures { result
             ≡ constraint_passes (filling_of self.now) (held stores.now) row }
     {
-        let fact = said(row);
+        let fact = Fact::from(row);
         let rows = self.rows(stores);
         let k = arity_at(rows, fact.term);
         let l = arity_at(rows, fact.a);
@@ -198,7 +198,7 @@ impl Sheet {
         if !self.constraint_passes(stores, row) {
             return Err(Refusal::IllConstraint(self.constraints_in));
         }
-        stores.put_fact(usize::from(self.constraints_in), said(row));
+        stores.put_fact(usize::from(self.constraints_in), Fact::from(row));
         self.constraints_in += 1;
         Ok(())
     }
