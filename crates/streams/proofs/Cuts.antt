@@ -13,10 +13,6 @@ cut_drop (suc n) [] = refl
 cut_drop zero (b ∷ bs) = refl
 cut_drop (suc n) (b ∷ bs) = cut_drop n bs
 
--- what is left of the list after its first n
-pub rest_cut : (n : ℕ) (xs : List ℕ) → take (length xs - n) (drop n xs) ≡ drop n xs
-rest_cut n xs = take_all (length xs - n) (drop n xs) (omega (arith, length-drop n xs))
-
 -- either of two positive numbers is positive
 either : (c : Bool) (x y : ℕ) → 1 ≤ x → 1 ≤ y → 1 ≤ cond c x y
 either true x y p q = p
