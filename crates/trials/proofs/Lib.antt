@@ -2,3 +2,4 @@
 mod Lookups
 mod Acted
 mod Weighed
+mod Alternatives

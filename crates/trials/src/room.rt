@@ -59,9 +59,7 @@ pub(crate) fn names_over(rule: Rule, cited: Cited, n: u8) -> bool
     requires { n ≤ 64 }
     ensures { result ≡ names_over rule cited n }
 {
-    many_names(n, alternative(rule, cited, n, 0))
-        || many_names(n, alternative(rule, cited, n, 1))
-        || many_names(n, alternative(rule, cited, n, 2))
+    (0..3).any(|k| many_names(n, alternative(rule, cited, n, k)))
 }
 
 // Some alternative would have more than 1,024 facts.
@@ -69,9 +67,7 @@ pub(crate) fn facts_over(rule: Rule, cited: Cited, n: u8, m: u16) -> bool
     requires { (n ≤ 64) × (m ≤ 1024) }
     ensures { result ≡ facts_over rule cited n m }
 {
-    many_facts(m, alternative(rule, cited, n, 0))
-        || many_facts(m, alternative(rule, cited, n, 1))
-        || many_facts(m, alternative(rule, cited, n, 2))
+    (0..3).any(|k| many_facts(m, alternative(rule, cited, n, k)))
 }
 
 // The fork with its next alternative one further.
