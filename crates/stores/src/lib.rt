@@ -26,7 +26,7 @@ pub fn large_enough(stores: &Stores) -> bool
         && stores.representatives.len() >= 64
 }
 
-impl Stores<'_, '_> {
+impl Stores<'_> {
     // Writes the code of label n.
     pub fn put_label(&mut self, n: usize, code: u32)
         requires { n < length self.old.labels.now }
