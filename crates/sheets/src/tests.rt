@@ -12,10 +12,7 @@ use values::tuple::Tuple;
 
 // A refusal's number and detail; zeros where there is none.
 fn shown(answer: Result<(), Refusal>) -> (u8, u64) {
-    match answer {
-        Ok(()) => (0, 0),
-        Err(e) => (e.number(), e.detail()),
-    }
+    answer.err().map_or((0, 0), |e| (e.number(), e.detail()))
 }
 
 // Three rows, as far as they are granted.
@@ -39,8 +36,7 @@ fn header(stores: &Stores, bytes: &[u8]) -> (u8, u64) {
                 sealed.sizes();
                 (0, 0)
             }
-            Err(back) => {
-                let (sheet, e) = back;
+            Err((sheet, e)) => {
                 sheet.give_up();
                 shown(Err(e))
             }
