@@ -1,5 +1,5 @@
 // Look-ups of what a step cites: facts, rows and labels, each in the counted front of its store.
-ghost use Rattle.std.specs.Prelude.{◌≡◌, ◌-◌, take};
+ghost use Rattle.std.specs.Prelude.{◌≡◌, take};
 ghost use Rattle.std.specs.List.{slice_get};
 ghost use Rattle.rules.specs.Looked.{looked, row_at, label_at, compared, labels_for};
 ghost use Rattle.calls.specs.RuleSteps.{or_none};
@@ -8,7 +8,6 @@ use labels::kind::Kind;
 use labels::sameness::Sameness;
 use records::rows::{Fact, TermRow};
 use records::rule::Rule;
-use rules::outcome::Fork;
 use stores::trail::entry;
 
 // The row of term t, or no row past the last term.
@@ -34,13 +33,6 @@ pub(crate) fn fact_or_none(branch: &[Fact], p: u16) -> Fact
     ensures { result ≡ or_none (slice_get branch.now p) }
 {
     branch.get(usize::from(p)).copied().unwrap_or_default()
-}
-
-// The latest of the forks, counted by `count`, if there is one.
-pub(crate) fn latest(forks: &[Fork], count: u8) -> Option<Fork>
-    ensures { result ≡ slice_get forks.now (count - 1) }
-{
-    forks.get(usize::from(count.saturating_sub(1))).copied()
 }
 
 // Whether the labels of the names x and y are the same by the kind, where both have a value.

@@ -1,5 +1,6 @@
 // What of the stores is in use, by the counts: the front of each.
-ghost use Rattle.std.specs.Prelude.{◌≡◌, take};
+ghost use Rattle.std.specs.Prelude.{◌≡◌, ◌-◌, take};
+ghost use Rattle.std.specs.List.{slice_get};
 
 use super::Progress;
 use records::rows::{Fact, TermRow};
@@ -29,10 +30,18 @@ impl Progress {
     }
 
     // The forks that are kept, the latest last.
-    pub(crate) fn kept<'s>(&self, forks: &'s [Fork]) -> &'s [Fork]
+    fn kept<'s>(&self, forks: &'s [Fork]) -> &'s [Fork]
         ensures { result.now ≡ take self.now.forks forks.now }
     {
         front(forks, usize::from(self.forks))
+    }
+
+    // The latest of them, if there is one.
+    pub(crate) fn latest(&self, forks: &[Fork]) -> Option<Fork>
+        ensures { result ≡ slice_get (take self.now.forks forks.now) (self.now.forks - 1) }
+    {
+        let last = usize::from(self.forks.saturating_sub(1));
+        self.kept(forks).get(last).copied()
     }
 
     // The representatives of the branch's names, once there is a model.

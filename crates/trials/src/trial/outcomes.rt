@@ -8,7 +8,7 @@ ghost use Rattle.stores.specs.View.{held};
 ghost use Rattle.trials.specs.View.{counts_of};
 ghost use Rattle.trials.specs.Steps.{Roomy};
 
-use crate::looks::{fact_or_none, latest, row};
+use crate::looks::{fact_or_none, row};
 use crate::progress::Progress;
 use crate::room::{facts_over, forks_left, grow_by, many_facts, many_names, move_on, names_over};
 use labels::kind::Kind;
@@ -126,7 +126,7 @@ impl Progress {
             (self.now.forks - 1)) }
         ensures room { IfOk result (λ o. Roomy (counts_of self.now) o) }
     {
-        match latest(self.kept(stores.forks), self.forks) {
+        match self.latest(stores.forks) {
             None => Ok(Outcome::Closes),
             Some(fork) => self.resume(stores, fork),
         }

@@ -1,4 +1,4 @@
-use Rattle.std.proofs.Common.{◌<◌, arith}
+use Rattle.std.proofs.Common.{arith}
 use Rattle.stores.specs.View.{held}
 use Rattle.trials.specs.View.{counts_of}
 use Rattle.trials.proofs.Acted.{ready, decided_below}
