@@ -1,7 +1,6 @@
 -- A stream's records, one by one: the first, and those of what comes after it.
-use Rattle.std.proofs.Common.{◌≡◌, ℕ, zero, suc, ◌+◌, ◌-◌, ◌<◌, ◌≤◌, Bool, true, false, cond, ltb, List, [], ◌∷◌, length, take, drop, refl, ap, ◌∙◌, arith, length-drop}
+use Rattle.std.proofs.Common.{◌≡◌, ℕ, zero, suc, ◌+◌, ◌-◌, ◌<◌, ◌≤◌, Bool, true, false, cond, ltb, List, [], ◌∷◌, length, drop, refl, ap, ◌∙◌, arith, length-drop}
 use native.Mathlib.Numerals.{unary_clauses}
-use Rattle.std.proofs.lemmas.List.{take_all}
 use Rattle.records.specs.Reading.{byte}
 use Rattle.streams.specs.Cutting.{begins, step_size, said_size}
 use Rattle.streams.specs.Cutting.{record_size, first_record, after_first, cut, records_of, due_of, later_of}
