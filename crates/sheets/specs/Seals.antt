@@ -9,7 +9,7 @@ use Rattle.sheets.specs.declared.sizes.Sizes.{Sizes}
 
 -- its numbers
 abbrev pub sizes_of : Sealed → Sizes
-sizes_of s = record { labels = s.labels; free = s.free; terms = s.terms; constraints = s.constraints }
+sizes_of s = s.sizes
 
 -- the trial that begins with these numbers: the constraints are its first facts
 abbrev pub begun : Sizes → Counts

@@ -7,10 +7,10 @@ use Rattle.sheets.specs.declared.sheet.Sheet.{Sheet}
 -- the numbers of a sheet
 abbrev pub filling_of : Sheet → Filling
 filling_of s = record {
-  labels = s.labels;
-  free = s.free;
-  terms = s.terms;
-  constraints = s.constraints;
+  labels = s.sizes.labels;
+  free = s.sizes.free;
+  terms = s.sizes.terms;
+  constraints = s.sizes.constraints;
   labels_in = s.labels_in;
   terms_in = s.terms_in;
   constraints_in = s.constraints_in;

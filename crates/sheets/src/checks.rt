@@ -1,11 +1,12 @@
 // The tests of a term row and of a constraint's fact on plain numbers, and the arities that they ask for.
-ghost use Rattle.std.specs.Prelude.{◌≡◌, take};
+ghost use Rattle.std.specs.Prelude.{◌≡◌};
 ghost use Rattle.rules.specs.Looked.{row_at};
-ghost use Rattle.records.specs.Reading.{fact_said};
-ghost use Rattle.calls.specs.Tests.{row_tested, fact_tested, place_ok};
+ghost use Rattle.records.specs.Kinds.{operation_number};
+ghost use Rattle.rules.specs.Rules.{all_of};
+ghost use Rattle.calls.specs.Tests.{row_tests, row_tested, fact_tested, place_ok};
 
-use records::rows::{ConstraintRow, Fact, TermRow};
-use stores::trail::entry;
+use records::kinds::{Form, Operation};
+use records::rows::{Fact, TermRow};
 
 // Place i of a tuple of arity k holds a name below n, or zero past the arity.
 fn place(n: u8, k: u8, i: u8, e: u8) -> bool
@@ -14,40 +15,56 @@ fn place(n: u8, k: u8, i: u8, e: u8) -> bool
     if i < k { e < n } else { e == 0 }
 }
 
+// Whether the operands of row t pass where there are n names; x and y are the arities of its first two.
+fn operands_ok(n: u8, t: u8, x: u8, y: u8, row: TermRow, operation: Operation) -> bool
+    ensures { result ≡ all_of (row_tests n t x y row (operation_number operation)) }
+{
+    match operation {
+        Operation::Variable | Operation::Empty => {
+            row.a == 0 && row.b == 0 && row.c == 0 && row.d == 0
+        }
+        Operation::Single => {
+            place(n, row.arity, 0, row.a)
+                && place(n, row.arity, 1, row.b)
+                && place(n, row.arity, 2, row.c)
+                && place(n, row.arity, 3, row.d)
+        }
+        Operation::Union | Operation::Intersection | Operation::Difference => {
+            row.a < t && x == row.arity && row.b < t && y == row.arity && row.c == 0 && row.d == 0
+        }
+        Operation::Transpose => {
+            row.a < t && x == row.arity && row.b == 0 && row.c == 0 && row.d == 0
+        }
+        Operation::Product => {
+            row.a < t
+                && row.b < t
+                && u16::from(row.arity) == u16::from(x) + u16::from(y)
+                && row.c == 0
+                && row.d == 0
+        }
+        Operation::Join => {
+            row.a < t
+                && row.b < t
+                && 0 < x
+                && 0 < y
+                && u16::from(row.arity) + 2 == u16::from(x) + u16::from(y)
+                && row.c == 0
+                && row.d == 0
+        }
+        Operation::Closure => {
+            row.a < t && x == 2 && row.arity == 2 && row.b == 0 && row.c == 0 && row.d == 0
+        }
+    }
+}
+
 // Whether row t passes where there are n names; x and y are the arities of its first two operands.
 pub(crate) fn row_ok(n: u8, t: u8, x: u8, y: u8, row: TermRow) -> bool
     ensures { result ≡ row_tested n t x y row }
 {
-    row.arity >= 1
-        && row.arity <= 4
-        && match row.op {
-            0 | 1 => row.a == 0 && row.b == 0 && row.c == 0 && row.d == 0,
-            2 => place(n, row.arity, 0, row.a)
-                && place(n, row.arity, 1, row.b)
-                && place(n, row.arity, 2, row.c)
-                && place(n, row.arity, 3, row.d),
-            3 | 4 | 5 => row.a < t
-                && x == row.arity
-                && row.b < t
-                && y == row.arity
-                && row.c == 0
-                && row.d == 0,
-            6 => row.a < t && x == row.arity && row.b == 0 && row.c == 0 && row.d == 0,
-            7 => row.a < t
-                && row.b < t
-                && row.arity as u16 == x as u16 + y as u16
-                && row.c == 0
-                && row.d == 0,
-            8 => row.a < t
-                && row.b < t
-                && 0 < x
-                && 0 < y
-                && row.arity as u16 + 2 == x as u16 + y as u16
-                && row.c == 0
-                && row.d == 0,
-            9 => row.a < t && x == 2 && row.arity == 2 && row.b == 0 && row.c == 0 && row.d == 0,
-            _ => false,
-        }
+    let Ok(operation) = Operation::try_from(row.op) else {
+        return false;
+    };
+    matches!(row.arity, 1..=4) && operands_ok(n, t, x, y, row, operation)
 }
 
 // Whether a fact passes where there are m terms and n names; k and l are the arities of the terms numbered by
@@ -55,39 +72,25 @@ pub(crate) fn row_ok(n: u8, t: u8, x: u8, y: u8, row: TermRow) -> bool
 pub(crate) fn fact_ok(m: u8, n: u8, k: u8, l: u8, f: Fact) -> bool
     ensures { result ≡ fact_tested m n k l f }
 {
-    match f.form {
-        1 => f.term < m
-            && place(n, k, 0, f.a)
-            && place(n, k, 1, f.b)
-            && place(n, k, 2, f.c)
-            && place(n, k, 3, f.d),
-        2 => f.term == 0 && f.a < n && f.b < n && f.c == 0 && f.d == 0,
-        3 => f.term < m && f.a < m && k == l && f.b == 0 && f.c == 0 && f.d == 0,
-        _ => false,
+    match Form::try_from(f.form) {
+        Ok(Form::Member) => {
+            f.term < m
+                && place(n, k, 0, f.a)
+                && place(n, k, 1, f.b)
+                && place(n, k, 2, f.c)
+                && place(n, k, 3, f.d)
+        }
+        Ok(Form::EqualNames) => f.term == 0 && f.a < n && f.b < n && f.c == 0 && f.d == 0,
+        Ok(Form::EqualTerms) => {
+            f.term < m && f.a < m && k == l && f.b == 0 && f.c == 0 && f.d == 0
+        }
+        Err(_) => false,
     }
 }
 
-// The fact that a constraint row says, where its sign is 0 or 1.
-pub(crate) fn said(row: ConstraintRow) -> Fact
-    ensures { result ≡ fact_said row }
+// The arity of term t of these rows, or 0 where there is none.
+pub(crate) fn arity_at(rows: &[TermRow], t: u8) -> u8
+    ensures { result ≡ (row_at rows.now t).arity }
 {
-    Fact {
-        form: row.form,
-        positive: row.sign == 1,
-        term: row.term,
-        a: row.a,
-        b: row.b,
-        c: row.c,
-        d: row.d,
-    }
-}
-
-// The arity of term t among the first `count`, or 0 where there is none.
-pub(crate) fn arity_at(terms: &[TermRow], count: u8, t: u8) -> u8
-    ensures { result ≡ (row_at (take count terms.now) t).arity }
-{
-    match entry(terms, count as usize, t as usize) {
-        Some(row) => row.arity,
-        None => 0,
-    }
+    rows.get(usize::from(t)).map_or(0, |row| row.arity)
 }

@@ -12,10 +12,7 @@ use values::tuple::Tuple;
 
 // A refusal's number and detail; zeros where there is none.
 fn shown(answer: Result<(), Refusal>) -> (u8, u64) {
-    match answer {
-        Ok(()) => (0, 0),
-        Err(e) => (e.number(), e.detail()),
-    }
+    answer.err().map_or((0, 0), |e| (e.number(), e.detail()))
 }
 
 // Three rows, as far as they are granted.
@@ -39,8 +36,7 @@ fn header(stores: &Stores, bytes: &[u8]) -> (u8, u64) {
                 sealed.sizes();
                 (0, 0)
             }
-            Err(back) => {
-                let (sheet, e) = back;
+            Err((sheet, e)) => {
                 sheet.give_up();
                 shown(Err(e))
             }
@@ -165,23 +161,6 @@ fn short(rt: &impl Abort, stores: &Stores) -> Result<(), Fail> {
 
 // The stores that a test lends, with these labels.
 fn lend(rt: &impl Abort, labels: &mut [u32], full: bool) -> Result<(), Fail> {
-    let row = TermRow {
-        op: 0,
-        arity: 0,
-        a: 0,
-        b: 0,
-        c: 0,
-        d: 0,
-    };
-    let fact = Fact {
-        form: 0,
-        positive: false,
-        term: 0,
-        a: 0,
-        b: 0,
-        c: 0,
-        d: 0,
-    };
     let fork = Fork {
         facts: 0,
         names: 0,
@@ -196,8 +175,8 @@ fn lend(rt: &impl Abort, labels: &mut [u32], full: bool) -> Result<(), Fail> {
         c: 0,
         d: 0,
     };
-    let mut terms = [row; 64];
-    let mut facts = [fact; 1024];
+    let mut terms = [TermRow::default(); 64];
+    let mut facts = [Fact::default(); 1024];
     let mut forks = [fork; 64];
     let mut tuples = [tuple; 4096];
     let mut representatives = [0u8; 64];
@@ -209,20 +188,11 @@ fn lend(rt: &impl Abort, labels: &mut [u32], full: bool) -> Result<(), Fail> {
         tuples: &mut tuples,
         representatives: &mut representatives,
     };
-    let answer = if full {
+    if full {
         all(rt, &mut stores)
     } else {
         short(rt, &stores)
-    };
-    let Stores {
-        labels: _,
-        terms: _,
-        facts: _,
-        forks: _,
-        tuples: _,
-        representatives: _,
-    } = stores;
-    answer
+    }
 }
 
 #[test]

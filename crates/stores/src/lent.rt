@@ -2,13 +2,13 @@ use records::rows::{Fact, TermRow};
 use rules::outcome::Fork;
 use values::tuple::Tuple;
 
-// The six stores, lent anew to every call. The tuple store has a lifetime of its own, so that it can be lent
-// apart from the others.
-pub struct Stores<'a, 'b> {
+// The six stores, lent anew to every call.
+#[derive(Drop)]
+pub struct Stores<'a> {
     pub labels: &'a mut [u32],
     pub terms: &'a mut [TermRow],
     pub facts: &'a mut [Fact],
     pub forks: &'a mut [Fork],
-    pub tuples: &'b mut [Tuple],
+    pub tuples: &'a mut [Tuple],
     pub representatives: &'a mut [u8],
 }

@@ -14,6 +14,7 @@ use rules::outcome::Fork;
 use trail::push_at;
 
 // Whether each store has the places that the limits ask for.
+// No type carries that they have: it would wrap the lent struct at every call, and be no plainer.
 pub fn large_enough(stores: &Stores) -> bool
     ensures is { result ≡ enough (held stores.now) }
     ensures so { T result → Enough (held stores.now) }
@@ -26,7 +27,7 @@ pub fn large_enough(stores: &Stores) -> bool
         && stores.representatives.len() >= 64
 }
 
-impl Stores<'_, '_> {
+impl Stores<'_> {
     // Writes the code of label n.
     pub fn put_label(&mut self, n: usize, code: u32)
         requires { n < length self.old.labels.now }

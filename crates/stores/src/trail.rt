@@ -4,6 +4,7 @@ ghost use Rattle.std.specs.List.{slice_get};
 ghost use Rattle.stores.specs.Kept.{kept};
 
 // The first `count` slots are kept; what the others hold does not matter.
+#[derive(Drop)]
 pub struct Trail<'a, T> {
     pub slots: &'a mut [T],
     pub count: usize,
@@ -39,9 +40,7 @@ impl<T: Copy> Trail<'_, T> {
         ensures kept { kept self.new ≡ take n (kept self.old) }
         ensures same { self.new.slots.ghost_name ≡ self.old.slots.ghost_name }
     {
-        if n < self.count {
-            self.count = n;
-        }
+        self.count = self.count.min(n);
     }
 
     // The entry at place i, if there is one.
@@ -52,15 +51,18 @@ impl<T: Copy> Trail<'_, T> {
     }
 }
 
+// The first `count` slots, or all where there are fewer.
+pub fn front<T>(slots: &[T], count: usize) -> &[T]
+    ensures { result.now ≡ take count slots.now }
+{
+    &slots[..count.min(slots.len())]
+}
+
 // The entry at place i of the first `count` slots, if there is one.
 pub fn entry<T: Copy>(slots: &[T], count: usize, i: usize) -> Option<T>
     ensures { result ≡ slice_get (take count slots.now) i }
 {
-    if i < count && i < slots.len() {
-        Some(slots[i])
-    } else {
-        None
-    }
+    front(slots, count).get(i).copied()
 }
 
 // Writes one entry more after the first `count`.
@@ -70,5 +72,4 @@ pub fn push_at<T: Copy>(slots: &mut [T], count: usize, x: T)
 {
     let mut trail = Trail { slots, count };
     let _ = trail.push(x);
-    let Trail { slots: _, count: _ } = trail;
 }

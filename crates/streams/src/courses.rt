@@ -28,8 +28,7 @@ fn settle(trial: Trial, last: u32) -> Result<Settled, Stop>
 {
     match trial.settle() {
         Ok(settled) => Ok(settled),
-        Err(back) => {
-            let (trial, refusal) = back;
+        Err((trial, refusal)) => {
             trial.give_up();
             Err(Stop {
                 refusal,
@@ -78,8 +77,7 @@ fn try_sheet<K: Kind>(
 {
     match Trial::seal(sheet, stores) {
         Ok(trial) => try_steps(trial, kind, stores, left),
-        Err(back) => {
-            let (sheet, refusal) = back;
+        Err((sheet, refusal)) => {
             sheet.give_up();
             Err(Stop {
                 refusal,
@@ -118,9 +116,9 @@ pub(crate) fn run<K: Kind>(kind: &K, stores: &mut Stores, stream: &[u8]) -> Resu
         (held stores.old) stream.now ≡ ended result (held stores.new) }
     ensures same { Same stores.old stores.new }
 {
-    let first = cut_off(stream);
-    match Sheet::make(kind, stores, first.record) {
-        Ok(sheet) => fill(sheet, kind, stores, first.rest),
+    let (header, rest) = cut_off(stream);
+    match Sheet::make(kind, stores, header) {
+        Ok(sheet) => fill(sheet, kind, stores, rest),
         Err(refusal) => Err(Stop { refusal, record: 1 }),
     }
 }

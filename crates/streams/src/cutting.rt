@@ -2,13 +2,6 @@
 ghost use Rattle.std.specs.Prelude.{◌≡◌, ◌≤◌, length};
 ghost use Rattle.streams.specs.Cutting.{step_size, said_size, record_size, first_record, after_first};
 
-// The first record of a stream, and what comes after it.
-#[derive(Clone, Copy)]
-pub(crate) struct Cut<'a> {
-    pub(crate) record: &'a [u8],
-    pub(crate) rest: &'a [u8],
-}
-
 // What is left of a stream, and the number of the record that comes next.
 #[derive(Clone, Copy)]
 pub(crate) struct Left<'a> {
@@ -45,22 +38,13 @@ fn record_size(stream: &[u8]) -> usize
     ensures size { result ≡ record_size stream.now }
     ensures within { result ≤ length stream.now }
 {
-    let said = said_size(stream);
-    if said < stream.len() {
-        said
-    } else {
-        stream.len()
-    }
+    said_size(stream).min(stream.len())
 }
 
-// Cuts off the first record.
-pub(crate) fn cut_off(stream: &[u8]) -> Cut<'_>
-    ensures record { result.record.now ≡ first_record stream.now }
-    ensures rest { result.rest.now ≡ after_first stream.now }
+// Cuts off the first record: that, and what comes after it.
+pub(crate) fn cut_off(stream: &[u8]) -> (&[u8], &[u8])
+    ensures first { result.0.now ≡ first_record stream.now }
+    ensures rest { result.1.now ≡ after_first stream.now }
 {
-    let size = record_size(stream);
-    Cut {
-        record: &stream[..size],
-        rest: &stream[size..],
-    }
+    stream.split_at(record_size(stream))
 }

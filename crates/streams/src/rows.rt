@@ -35,14 +35,14 @@ pub(crate) fn add_rows<'a, K: Kind>(
     let due = sheet.due();
     let mut rest = stream;
     for i in 0..due {
-        let next = cut_off(rest);
-        if let Err(refusal) = sheet.add(kind, stores, next.record) {
+        let (row, after) = cut_off(rest);
+        if let Err(refusal) = sheet.add(kind, stores, row) {
             return Err(Stop {
                 refusal,
                 record: 2 + u32::from(i),
             });
         }
-        rest = next.rest;
+        rest = after;
     }
     Ok(Left {
         rest,

@@ -30,12 +30,12 @@ pub(crate) fn take_steps<K: Kind>(
 {
     let mut rest = left.rest;
     let mut record = left.record;
-    while rest.len() > 0 {
-        let next = cut_off(rest);
-        if let Err(refusal) = trial.step(kind, stores, next.record) {
+    while !rest.is_empty() {
+        let (step, after) = cut_off(rest);
+        if let Err(refusal) = trial.step(kind, stores, step) {
             return Err(Stop { refusal, record });
         }
-        rest = next.rest;
+        rest = after;
         record += 1;
     }
     Ok(record)

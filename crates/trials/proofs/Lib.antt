@@ -1,5 +1,5 @@
--- Lemmas that the answers cite: look-ups, a front written over a list, and a step by the trial's verdict.
+-- Lemmas that the answers cite: look-ups, and a step by the trial's verdict.
 mod Lookups
-mod Fronts
 mod Acted
 mod Weighed
+mod Alternatives

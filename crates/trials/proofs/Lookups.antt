@@ -1,24 +1,12 @@
--- Look-ups by either kind of option: an entry that is there is the one by default (`entry_there`), and two
--- labels compare as the kind answers for their codes (`same_labels`, `other_labels`, `lost_labels`).
-use Rattle.std.proofs.Common.{◌≡◌, ℕ, zero, suc, Bool, true, false, cond, eqb, List, [], ◌∷◌, get_or, Some, None, refl, ap, ◌∙◌, ap₂, arith}
+-- Look-ups by either kind of option: two labels compare as the kind answers for their codes (`same_labels`,
+-- `other_labels`, `lost_labels`).
+use Rattle.std.proofs.Common.{◌≡◌, ℕ, zero, suc, Bool, true, false, cond, eqb, List, [], ◌∷◌, Some, None, refl, ap, ◌∙◌, ap₂, arith}
 use mathlib.Core.Option.{Option, none, some}
 use lib.ListN.{get_elem?}
 use Rattle.std.specs.List.{slice_get}
 use Rattle.labels.specs.Kinds.{sameness_by, sameness}
 use Rattle.labels.specs.declared.sameness.Sameness.TheVariants.{Same, Different, NoValue}
 use Rattle.rules.specs.Looked.{label_at, coded, compared}
-
--- an entry that is there is the one by default
-pub entry_there : {X : Type 0} (xs : List X) (i : ℕ) (d x : X) → Some x ≡ slice_get xs i → x ≡ get_or xs i d
-entry_there [] i d x e = absurd (let z : ◌≡◌ {A = ℕ} 0 1 = cc in omega arith)
-entry_there (y ∷ xs) zero d x e = cc
-entry_there (y ∷ xs) (suc i) d x e = entry_there xs i d x e
-
--- where there is none it is the default
-pub entry_gone : {X : Type 0} (xs : List X) (i : ℕ) (d : X) → None ≡ slice_get xs i → d ≡ get_or xs i d
-entry_gone [] i d e = refl
-entry_gone (y ∷ xs) zero d e = absurd (let z : ◌≡◌ {A = ℕ} 0 1 = cc in omega arith)
-entry_gone (y ∷ xs) (suc i) d e = entry_gone xs i d e
 
 -- the same entry by the other option
 pub code_there : (xs : List ℕ) (i x : ℕ) → Some x ≡ slice_get xs i → some x ≡ get_elem? xs i

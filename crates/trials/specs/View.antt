@@ -1,56 +1,34 @@
 -- The numbers of a trial, and of a settled trial, as the calls speak of them.
-use Rattle.std.specs.Prelude.{ℕ, ◌+◌, Ok, Err, Result}
-use Rattle.records.specs.declared.verdict.Verdict.TheVariants as verdict
+use Rattle.std.specs.Prelude.{Ok, Err, Result}
 use Rattle.calls.specs.Sheets.{Counts}
 use Rattle.records.specs.declared.refusal.Refusal.{Refusal}
 use Rattle.sheets.specs.declared.sheet.Sheet.{Sheet}
+use Rattle.trials.specs.declared.progress.Progress.{Progress}
 use Rattle.trials.specs.declared.trial.Trial.{Trial}
 use Rattle.trials.specs.declared.settled.Settled.{Settled}
 
+-- how far a trial is, as its numbers
+abbrev pub counts_of : Progress → Counts
+counts_of p = record {
+  labels = p.sizes.labels;
+  free = p.sizes.free;
+  terms = p.sizes.terms;
+  constraints = p.sizes.constraints;
+  verdict = p.verdict;
+  names = p.names;
+  facts = p.facts;
+  forks = p.forks;
+  granted = p.granted;
+  denied = p.denied;
+}
+
 -- a trial's numbers
 abbrev pub counts : Trial → Counts
-counts t = record {
-  labels = t.labels;
-  free = t.free;
-  terms = t.terms;
-  constraints = t.constraints;
-  verdict = t.verdict;
-  names = t.names;
-  facts = t.facts;
-  forks = t.forks;
-  granted = t.granted;
-  denied = t.denied;
-}
+counts t = counts_of t.progress
 
 -- a settled trial's numbers
 abbrev pub settled_counts : Settled → Counts
-settled_counts t = record {
-  labels = t.labels;
-  free = t.free;
-  terms = t.terms;
-  constraints = t.constraints;
-  verdict = t.verdict;
-  names = t.names;
-  facts = t.facts;
-  forks = t.forks;
-  granted = t.granted;
-  denied = t.denied;
-}
-
--- a trial before its first step, of a sheet with l labels, f free names, m terms and c constraints
-abbrev pub begun : ℕ → ℕ → ℕ → ℕ → Counts
-begun l f m c = record {
-  labels = l;
-  free = f;
-  terms = m;
-  constraints = c;
-  verdict = verdict.Undecided;
-  names = l + f;
-  facts = c;
-  forks = 0;
-  granted = 0;
-  denied = 0;
-}
+settled_counts s = counts_of s.progress
 
 -- what seal answers, with the trial's numbers
 abbrev pub trial_told : Result Trial (Sheet × Refusal) → Result Counts Refusal

@@ -1,7 +1,6 @@
 // Look-ups of what a step cites: facts, rows and labels, each in the counted front of its store.
-ghost use Rattle.std.specs.Prelude.{◌≡◌, ◌-◌, take};
+ghost use Rattle.std.specs.Prelude.{◌≡◌, take};
 ghost use Rattle.std.specs.List.{slice_get};
-ghost use Rattle.rules.specs.Facts.{no_fact, no_row};
 ghost use Rattle.rules.specs.Looked.{looked, row_at, label_at, compared, labels_for};
 ghost use Rattle.calls.specs.RuleSteps.{or_none};
 
@@ -9,75 +8,31 @@ use labels::kind::Kind;
 use labels::sameness::Sameness;
 use records::rows::{Fact, TermRow};
 use records::rule::Rule;
-use rules::outcome::Fork;
 use stores::trail::entry;
 
-// No fact: it has no form.
-pub(crate) fn no_fact() -> Fact
-    ensures { result ≡ no_fact }
-{
-    Fact {
-        form: 0,
-        positive: false,
-        term: 0,
-        a: 0,
-        b: 0,
-        c: 0,
-        d: 0,
-    }
-}
-
-// No row: its operation is no rule's.
-fn no_row() -> TermRow
-    ensures { result ≡ no_row }
-{
-    TermRow {
-        op: 0,
-        arity: 0,
-        a: 0,
-        b: 0,
-        c: 0,
-        d: 0,
-    }
-}
-
 // The row of term t, or no row past the last term.
-pub(crate) fn row(terms: &[TermRow], count: u8, t: u8) -> TermRow
-    ensures { result ≡ row_at (take count terms.now) t }
+pub(crate) fn row(rows: &[TermRow], t: u8) -> TermRow
+    ensures { result ≡ row_at rows.now t }
 {
-    match entry(terms, count as usize, t as usize) {
-        Some(found) => found,
-        None => no_row(),
-    }
+    rows.get(usize::from(t)).copied().unwrap_or_default()
 }
 
 // Fact number p, where the rule mentions it.
-pub(crate) fn look(used: bool, facts: &[Fact], count: u16, p: u16) -> Option<Fact>
-    ensures { result ≡ looked used (take count facts.now) p }
+pub(crate) fn look(used: bool, branch: &[Fact], p: u16) -> Option<Fact>
+    ensures { result ≡ looked used branch.now p }
 {
     if used {
-        entry(facts, count as usize, p as usize)
+        branch.get(usize::from(p)).copied()
     } else {
-        Some(no_fact())
+        Some(Fact::default())
     }
 }
 
 // Fact number p, or no fact past the last one.
-pub(crate) fn fact_or_none(facts: &[Fact], count: u16, p: u16) -> Fact
-    ensures { result ≡ or_none (slice_get (take count facts.now) p) }
+pub(crate) fn fact_or_none(branch: &[Fact], p: u16) -> Fact
+    ensures { result ≡ or_none (slice_get branch.now p) }
 {
-    match entry(facts, count as usize, p as usize) {
-        Some(found) => found,
-        None => no_fact(),
-    }
-}
-
-// The latest fork, if there is one.
-pub(crate) fn latest(forks: &[Fork], count: u8) -> Option<Fork>
-    ensures { result ≡ slice_get (take count forks.now) (count - 1) }
-{
-    let place = if count == 0 { 0 } else { count - 1 };
-    entry(forks, count as usize, place as usize)
+    branch.get(usize::from(p)).copied().unwrap_or_default()
 }
 
 // Whether the labels of the names x and y are the same by the kind, where both have a value.

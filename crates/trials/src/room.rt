@@ -2,21 +2,13 @@
 ghost use Rattle.std.specs.Prelude.{◌≡◌, ◌+◌, ◌≤◌, nat_lt};
 ghost use Rattle.rules.specs.Rules.{size_of};
 ghost use Rattle.rules.specs.Room.{names_over, facts_over, grown};
-ghost use Rattle.calls.specs.RuleSteps.{at_most, onward, forks_left};
+ghost use Rattle.calls.specs.RuleSteps.{onward, forks_left};
 ghost use Rattle.trials.specs.Steps.{Fitting};
 
 use records::rule::Rule;
 use rules::cited::{Alt, Cited, Facts, Grown};
 use rules::outcome::Fork;
 use rules::{alternative, alternatives};
-
-// x, or the limit m where x is more.
-pub(crate) fn at_most(m: u16, x: u16) -> u16
-    ensures is { result ≡ at_most m x }
-    ensures less { result ≤ m }
-{
-    if m < x { m } else { x }
-}
 
 // How many facts the alternative has.
 fn size(alt: Alt) -> u16
@@ -67,9 +59,7 @@ pub(crate) fn names_over(rule: Rule, cited: Cited, n: u8) -> bool
     requires { n ≤ 64 }
     ensures { result ≡ names_over rule cited n }
 {
-    many_names(n, alternative(rule, cited, n, 0))
-        || many_names(n, alternative(rule, cited, n, 1))
-        || many_names(n, alternative(rule, cited, n, 2))
+    (0..3).any(|k| many_names(n, alternative(rule, cited, n, k)))
 }
 
 // Some alternative would have more than 1,024 facts.
@@ -77,9 +67,7 @@ pub(crate) fn facts_over(rule: Rule, cited: Cited, n: u8, m: u16) -> bool
     requires { (n ≤ 64) × (m ≤ 1024) }
     ensures { result ≡ facts_over rule cited n m }
 {
-    many_facts(m, alternative(rule, cited, n, 0))
-        || many_facts(m, alternative(rule, cited, n, 1))
-        || many_facts(m, alternative(rule, cited, n, 2))
+    (0..3).any(|k| many_facts(m, alternative(rule, cited, n, k)))
 }
 
 // The fork with its next alternative one further.
@@ -87,12 +75,8 @@ pub(crate) fn move_on(fork: Fork) -> Fork
     ensures { result ≡ onward fork }
 {
     Fork {
-        facts: fork.facts,
-        names: fork.names,
-        rule: fork.rule,
-        p: fork.p,
-        t: fork.t,
-        next: if fork.next < 3 { fork.next + 1 } else { 3 },
+        next: fork.next.min(2) + 1,
+        ..fork
     }
 }
 

@@ -55,7 +55,6 @@ pub(crate) fn put_at<T: Copy>(slots: &mut [T], count: usize, at: usize, x: T)
     let mut trail = Trail { slots, count };
     trail.cut(at);
     add(&mut trail, x);
-    let Trail { slots: _, count: _ } = trail;
 }
 
 // Cuts the first `count` facts back to where the alternative stands, and adds its facts.
@@ -65,11 +64,10 @@ pub(crate) fn put_all(facts: &mut [Fact], count: u16, grown: Grown)
 {
     let mut trail = Trail {
         slots: facts,
-        count: count as usize,
+        count: usize::from(count),
     };
-    trail.cut(grown.at as usize);
+    trail.cut(usize::from(grown.at));
     add_all(&mut trail, grown.alt);
-    let Trail { slots: _, count: _ } = trail;
 }
 
 // Writes the bytes at the front of the slots.
@@ -78,7 +76,5 @@ pub(crate) fn put_front(slots: &mut [u8], bytes: &[u8])
     ensures { slots.new
         ≡ bytes.now ++ drop (length bytes.now) slots.old }
 {
-    for i in 0..bytes.len() {
-        slots[i] = bytes[i];
-    }
+    slots[..bytes.len()].copy_from_slice(bytes);
 }

@@ -16,8 +16,8 @@ impl Sheet {
     pub fn due(&self) -> u8
         ensures { result ≡ rows_due (filling_of self.now) }
     {
-        (self.labels - self.labels_in)
-            + ((self.terms - self.terms_in) + (self.constraints - self.constraints_in))
+        (self.sizes.labels - self.labels_in)
+            + ((self.sizes.terms - self.terms_in) + (self.sizes.constraints - self.constraints_in))
     }
 
     // The full sheet, sealed; one with rows still due is handed back as it was.
@@ -33,20 +33,12 @@ impl Sheet {
             return Err((self, Refusal::RowsDue(due)));
         }
         let Sheet {
-            labels,
-            free,
-            terms,
-            constraints,
+            sizes,
             labels_in: _,
             terms_in: _,
             constraints_in: _,
         } = self;
-        Ok(Sealed {
-            labels,
-            free,
-            terms,
-            constraints,
-        })
+        Ok(Sealed { sizes })
     }
 
     // Ends a sheet that is not to be sealed, and says how many rows were still due.
@@ -55,10 +47,7 @@ impl Sheet {
     {
         let left = self.due();
         let Sheet {
-            labels: _,
-            free: _,
-            terms: _,
-            constraints: _,
+            sizes: _,
             labels_in: _,
             terms_in: _,
             constraints_in: _,
@@ -73,18 +62,7 @@ impl Sealed {
         ensures is { result ≡ sizes_of self }
         ensures few { Few result }
     {
-        let sizes = Sizes {
-            labels: self.labels,
-            free: self.free,
-            terms: self.terms,
-            constraints: self.constraints,
-        };
-        let Sealed {
-            labels: _,
-            free: _,
-            terms: _,
-            constraints: _,
-        } = self;
+        let Sealed { sizes } = self;
         sizes
     }
 }

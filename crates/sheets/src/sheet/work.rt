@@ -3,19 +3,21 @@ ghost use Rattle.records.specs.declared.refusal.Refusal.TheVariants.{OverLimit};
 ghost use Rattle.stores.specs.View.{held, tuples_of, Same};
 ghost use Rattle.calls.specs.Stores.{Enough};
 ghost use Rattle.calls.specs.Sheets.{make_of, within, empty_sheet, add_of};
-ghost use Rattle.sheets.specs.Rows.{names_of, term_passes, constraint_passes};
+ghost use Rattle.sheets.specs.Rows.{names_of, terms_of, term_passes, constraint_passes};
 ghost use Rattle.sheets.specs.Rows.{label_row, term_row, constraint_row};
 ghost use Rattle.sheets.specs.View.{filling_of, made};
 
 use super::Sheet;
-use crate::checks::{arity_at, fact_ok, row_ok, said};
+use crate::checks::{arity_at, fact_ok, row_ok};
+use crate::sizes::Sizes;
 use labels::kind::Kind;
 use records::record::RowRecord;
 use records::refusal::Refusal;
-use records::rows::{ConstraintRow, Header, TermRow};
+use records::rows::{ConstraintRow, Fact, Header, TermRow};
 use records::{read_header, read_row};
 use stores::large_enough;
 use stores::lent::Stores;
+use stores::trail::front;
 
 impl Sheet {
     // A sheet without rows, from a header with the kind's letter that is within the limits. Of the stores
@@ -40,15 +42,18 @@ impl Sheet {
     fn of_header(header: Header) -> Result<Sheet, Refusal>
         ensures { made result ≡ (if within header then Ok (empty_sheet header) else Err OverLimit) }
     {
-        let names = header.labels as u16 + header.free as u16;
+        let names = u16::from(header.labels) + u16::from(header.free);
         if names > 32 || header.terms > 64 || header.constraints > 128 {
             return Err(Refusal::OverLimit);
         }
-        Ok(Sheet {
+        let sizes = Sizes {
             labels: header.labels,
             free: header.free,
             terms: header.terms,
             constraints: header.constraints,
+        };
+        Ok(Sheet {
+            sizes,
             labels_in: 0,
             terms_in: 0,
             constraints_in: 0,
@@ -87,7 +92,14 @@ impl Sheet {
     fn names(&self) -> u8
         ensures { result ≡ names_of (filling_of self.now) }
     {
-        self.labels + self.free
+        self.sizes.labels + self.sizes.free
+    }
+
+    // The term rows that are in.
+    fn rows<'s>(&self, stores: &'s Stores) -> &'s [TermRow]
+        ensures { result.now ≡ terms_of (filling_of self.now) (held stores.now) }
+    {
+        front(stores.terms, usize::from(self.terms_in))
     }
 
     // A label's row: its code must have a value.
@@ -108,7 +120,7 @@ impl Sheet {
         ensures same { Same stores.old stores.new }
         ensures tuples { tuples_of stores.new ≡ tuples_of stores.old }
     {
-        if self.labels_in >= self.labels {
+        if self.labels_in >= self.sizes.labels {
             return Err(Refusal::NotDue);
         }
         if !kind.known(code) {
@@ -123,8 +135,9 @@ impl Sheet {
     fn term_passes(&self, stores: &Stores, row: TermRow) -> bool
         ensures { result ≡ term_passes (filling_of self.now) (held stores.now) row }
     {
-        let x = arity_at(stores.terms, self.terms_in, row.a);
-        let y = arity_at(stores.terms, self.terms_in, row.b);
+        let rows = self.rows(stores);
+        let x = arity_at(rows, row.a);
+        let y = arity_at(rows, row.b);
         row_ok(self.names(), self.terms_in, x, y, row)
     }
 
@@ -140,7 +153,7 @@ impl Sheet {
         ensures same { Same stores.old stores.new }
         ensures tuples { tuples_of stores.new ≡ tuples_of stores.old }
     {
-        if self.labels_in < self.labels || self.terms_in >= self.terms {
+        if self.labels_in < self.sizes.labels || self.terms_in >= self.sizes.terms {
             return Err(Refusal::NotDue);
         }
         if !self.term_passes(stores, row) {
@@ -157,9 +170,10 @@ impl Sheet {
         ensures { result
             ≡ constraint_passes (filling_of self.now) (held stores.now) row }
     {
-        let fact = said(row);
-        let k = arity_at(stores.terms, self.terms_in, fact.term);
-        let l = arity_at(stores.terms, self.terms_in, fact.a);
+        let fact = Fact::from(row);
+        let rows = self.rows(stores);
+        let k = arity_at(rows, fact.term);
+        let l = arity_at(rows, fact.a);
         row.sign <= 1 && fact_ok(self.terms_in, self.names(), k, l, fact)
     }
 
@@ -175,16 +189,16 @@ impl Sheet {
         ensures same { Same stores.old stores.new }
         ensures tuples { tuples_of stores.new ≡ tuples_of stores.old }
     {
-        if self.labels_in < self.labels
-            || self.terms_in < self.terms
-            || self.constraints_in >= self.constraints
+        if self.labels_in < self.sizes.labels
+            || self.terms_in < self.sizes.terms
+            || self.constraints_in >= self.sizes.constraints
         {
             return Err(Refusal::NotDue);
         }
         if !self.constraint_passes(stores, row) {
             return Err(Refusal::IllConstraint(self.constraints_in));
         }
-        stores.put_fact(usize::from(self.constraints_in), said(row));
+        stores.put_fact(usize::from(self.constraints_in), Fact::from(row));
         self.constraints_in += 1;
         Ok(())
     }

@@ -8,7 +8,6 @@ ghost use Rattle.stores.specs.View.{held};
 ghost use Rattle.trials.specs.View.{settled_counts};
 
 use super::Settled;
-use crate::firsts::front;
 use listing::branch::Branch;
 use listing::line::Line;
 use listing::{list_line, list_open};
@@ -18,34 +17,32 @@ use stores::large_enough;
 use stores::lent::Stores;
 
 impl Settled {
-    // The listing of a model, from stores that are large enough.
+    // The listing of a model.
     fn list_model(&self, stores: &Stores, out: &mut [u8]) -> Result<usize, Refusal>
-        requires { Enough (held stores.now) }
         ensures lists { record { result = result; buffer = out.new } ≡ written out.old
             (text (lines_by Open (settled_counts self.now) (held stores.now))) }
         ensures within { IfOk result (λ n. n ≤ length out.old) }
         ensures fits { 24323 ≤ length out.old → is_ok result ≡ true }
     {
         let branch = Branch {
-            granted: self.granted,
-            representatives: front(stores.representatives, usize::from(self.names)),
-            facts: front(stores.facts, usize::from(self.facts)),
-            terms: front(stores.terms, usize::from(self.terms)),
+            granted: self.progress.granted,
+            representatives: self.progress.representatives(stores.representatives),
+            facts: self.progress.branch(stores.facts),
+            terms: self.progress.rows(stores.terms),
         };
         list_open(out, &branch)
     }
 
-    // The listing by the verdict, from stores that are large enough.
+    // The listing by the verdict.
     fn list_from(&self, stores: &Stores, out: &mut [u8]) -> Result<usize, Refusal>
-        requires { Enough (held stores.now) }
         ensures lists { record { result = result; buffer = out.new } ≡ written out.old
             (text (lines_of (settled_counts self.now) (held stores.now))) }
         ensures within { IfOk result (λ n. n ≤ length out.old) }
         ensures fits { 24323 ≤ length out.old → is_ok result ≡ true }
     {
-        match self.verdict {
+        match self.progress.verdict {
             Verdict::Undecided => Ok(0),
-            Verdict::Closed => list_line(out, Line::Closed(self.granted)),
+            Verdict::Closed => list_line(out, Line::Closed(self.progress.granted)),
             Verdict::Open => self.list_model(stores, out),
         }
     }
@@ -68,18 +65,7 @@ impl Settled {
     pub fn end(self) -> Verdict
         ensures { result ≡ (settled_counts self).verdict }
     {
-        let Settled {
-            labels: _,
-            free: _,
-            terms: _,
-            constraints: _,
-            names: _,
-            facts: _,
-            forks: _,
-            granted: _,
-            denied: _,
-            verdict: reached,
-        } = self;
-        reached
+        let Settled { progress } = self;
+        progress.verdict
     }
 }

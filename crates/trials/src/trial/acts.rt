@@ -3,31 +3,29 @@ ghost use Rattle.std.specs.Prelude.{◌≡◌, ◌<◌, ◌≤◌, IfOk};
 ghost use Rattle.calls.specs.Stores.{Enough};
 ghost use Rattle.calls.specs.RuleSteps.{counted, denied_once};
 ghost use Rattle.stores.specs.View.{held, tuples_of, Same};
-ghost use Rattle.trials.specs.View.{counts};
+ghost use Rattle.trials.specs.View.{counts_of};
 ghost use Rattle.trials.specs.Steps.{Ready, acted_at};
 
-use super::Trial;
+use crate::progress::Progress;
 use crate::writes::{put_all, put_at};
 use records::refusal::Refusal;
 use records::verdict::Verdict;
 use rules::outcome::Outcome;
 use stores::lent::Stores;
 
-impl Trial {
+impl Progress {
     // Counts a denied step, up to the most that the count holds.
     pub(crate) fn deny(&mut self)
-        ensures { counts self.new ≡ denied_once (counts self.old) }
+        ensures { counts_of self.new ≡ denied_once (counts_of self.old) }
     {
-        if self.denied < 65535 {
-            self.denied += 1;
-        }
+        self.denied = self.denied.saturating_add(1);
     }
 
     // Counts a granted record, with the verdict and the counts of facts, names and forks then.
     pub(crate) fn grant(&mut self, verdict: Verdict, facts: u16, names: u8, forks: u8)
         requires { (self.old.granted < 1000000) × ((facts ≤ 1024) × ((names ≤ 64) × (forks ≤ 64))) }
-        ensures { counts self.new
-            ≡ counted (counts self.old) verdict facts names forks }
+        ensures { counts_of self.new
+            ≡ counted (counts_of self.old) verdict facts names forks }
     {
         self.verdict = verdict;
         self.facts = facts;
@@ -42,13 +40,13 @@ impl Trial {
         stores: &mut Stores,
         outcome: Result<Outcome, Refusal>,
     ) -> Result<(), Refusal>
-        requires { (Enough (held stores.old)) × (IfOk outcome (λ o. Ready (counts self.old) o)) }
+        requires { (Enough (held stores.old)) × (IfOk outcome (λ o. Ready (counts_of self.old) o)) }
         ensures all { record {
           result = result;
-          trial = counts self.new;
+          trial = counts_of self.new;
           stores = held stores.new;
         }
-            ≡ acted_at self.old.verdict (counts self.old) (held stores.old)
+            ≡ acted_at self.old.verdict (counts_of self.old) (held stores.old)
             outcome }
         ensures same { Same stores.old stores.new }
         ensures tuples { tuples_of stores.new ≡ tuples_of stores.old }
@@ -60,13 +58,15 @@ impl Trial {
                 Ok(())
             }
             (Verdict::Undecided, forks, Ok(Outcome::Forks(grown, fork, left))) => {
-                put_at(stores.forks, forks as usize, forks as usize, fork);
+                let end = usize::from(forks);
+                put_at(stores.forks, end, end, fork);
                 put_all(stores.facts, self.facts, grown);
                 self.grant(Verdict::Undecided, grown.facts, grown.names, left);
                 Ok(())
             }
             (Verdict::Undecided, forks, Ok(Outcome::Resumes(grown, fork, left))) => {
-                put_at(stores.forks, forks as usize, forks as usize - 1, fork);
+                let end = usize::from(forks);
+                put_at(stores.forks, end, end - 1, fork);
                 put_all(stores.facts, self.facts, grown);
                 self.grant(Verdict::Undecided, grown.facts, grown.names, left);
                 Ok(())

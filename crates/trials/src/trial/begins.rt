@@ -1,28 +1,29 @@
 // The start of a trial.
-ghost use Rattle.std.specs.Prelude.{◌≡◌, ◌+◌, ◌≤◌};
-ghost use Rattle.trials.specs.View.{counts, begun};
+ghost use Rattle.std.specs.Prelude.{◌≡◌};
+ghost use Rattle.sheets.specs.Seals.{begun};
+ghost use Rattle.trials.specs.View.{counts};
 
 use super::Trial;
+use crate::progress::Progress;
 use records::verdict::Verdict;
+use sheets::sizes::Sizes;
 
 impl Trial {
     // The trial of a full sheet, before its first step: the sheet's names are the branch's, and its
     // constraints are the first facts.
-    pub(crate) fn begin(labels: u8, free: u8, terms: u8, constraints: u8) -> Trial
-        requires { (labels + free ≤ 32) × ((terms ≤ 64) × (constraints ≤ 128)) }
-        ensures { counts result ≡ begun labels free terms constraints }
+    pub(crate) fn begin(sizes: Sizes) -> Trial
+        ensures { counts result ≡ begun sizes }
     {
         Trial {
-            labels,
-            free,
-            terms,
-            constraints,
-            names: labels + free,
-            facts: constraints as u16,
-            forks: 0,
-            granted: 0,
-            denied: 0,
-            verdict: Verdict::Undecided,
+            progress: Progress {
+                sizes,
+                verdict: Verdict::Undecided,
+                names: sizes.labels + sizes.free,
+                facts: u16::from(sizes.constraints),
+                forks: 0,
+                granted: 0,
+                denied: 0,
+            },
         }
     }
 }

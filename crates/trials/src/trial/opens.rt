@@ -3,22 +3,22 @@ ghost use Rattle.std.specs.Prelude.{◌≡◌, ◌<◌, ◌≤◌, length};
 ghost use Rattle.calls.specs.Stores.{Enough};
 ghost use Rattle.calls.specs.Trials.{opened};
 ghost use Rattle.stores.specs.View.{held, tuples_of, Same};
-ghost use Rattle.trials.specs.View.{counts};
+ghost use Rattle.trials.specs.View.{counts_of};
 
-use super::Trial;
+use crate::progress::Progress;
 use crate::writes::put_front;
 use records::verdict::Verdict;
 use stores::lent::Stores;
 
-impl Trial {
+impl Progress {
     // Takes up a granted model: its representatives are put into their store, and the verdict is OPEN.
     pub(crate) fn open(&mut self, stores: &mut Stores, representatives: &[u8])
         requires { (Enough (held stores.old)) × ((length representatives.now ≤ 64) × (self.old.granted < 1000000)) }
-        ensures trial { counts self.new
-            ≡ (opened (counts self.old) (held stores.old)
+        ensures trial { counts_of self.new
+            ≡ (opened (counts_of self.old) (held stores.old)
             representatives.now).trial }
         ensures stores { held stores.new
-            ≡ (opened (counts self.old) (held stores.old)
+            ≡ (opened (counts_of self.old) (held stores.old)
             representatives.now).stores }
         ensures same { Same stores.old stores.new }
         ensures tuples { tuples_of stores.new ≡ tuples_of stores.old }

@@ -5,14 +5,12 @@ ghost use Rattle.std.specs.List.{slice_get};
 ghost use Rattle.calls.specs.RuleSteps.{cited_again, resumed_with, resumed, closing, growing, come_to};
 ghost use Rattle.calls.specs.RuleSteps.{forked, rows_of, branch_facts, forks_of};
 ghost use Rattle.stores.specs.View.{held};
-ghost use Rattle.trials.specs.View.{counts};
+ghost use Rattle.trials.specs.View.{counts_of};
 ghost use Rattle.trials.specs.Steps.{Roomy};
 
-use super::Trial;
-use crate::looks::{fact_or_none, latest, no_fact, row};
-use crate::room::{
-    at_most, facts_over, forks_left, grow_by, many_facts, many_names, move_on, names_over,
-};
+use crate::looks::{fact_or_none, row};
+use crate::progress::Progress;
+use crate::room::{facts_over, forks_left, grow_by, many_facts, many_names, move_on, names_over};
 use labels::kind::Kind;
 use records::refusal::{Refusal, Room};
 use records::rows::{Fact, Step};
@@ -22,12 +20,12 @@ use rules::outcome::{Fork, Outcome};
 use rules::{alternative, alternatives};
 use stores::lent::Stores;
 
-impl Trial {
+impl Progress {
     // A rule with alternatives: the first is appended, and a fork is kept where there are more. Names, facts
     // and forks are tested in this order, names and facts over all alternatives.
     fn grow(&self, x: Step, rule: Rule, cited: Cited) -> Result<Outcome, Refusal>
-        ensures is { result ≡ growing (counts self.now) x rule cited }
-        ensures room { IfOk result (λ o. Roomy (counts self.now) o) }
+        ensures is { result ≡ growing (counts_of self.now) x rule cited }
+        ensures room { IfOk result (λ o. Roomy (counts_of self.now) o) }
     {
         if names_over(rule, cited, self.names) {
             return Err(Refusal::NoRoom(Room::Names));
@@ -52,7 +50,7 @@ impl Trial {
 
     // The fork that a step leaves: its first alternative is taken up with it.
     fn fork(&self, rule: Rule, x: Step) -> Fork
-        ensures { result ≡ forked (counts self.now) rule x }
+        ensures { result ≡ forked (counts_of self.now) rule x }
     {
         Fork {
             facts: self.facts,
@@ -67,15 +65,16 @@ impl Trial {
     // What a fork's step cites, again.
     fn cite_again(&self, stores: &Stores, f: Fact, t: u8) -> Cited
         ensures { result
-            ≡ cited_again (rows_of (counts self.now) (held stores.now)) f t }
+            ≡ cited_again (rows_of (counts_of self.now) (held stores.now)) f t }
     {
-        let of_p = row(stores.terms, self.terms, f.term);
-        let of_t = row(stores.terms, self.terms, t);
-        let left = row(stores.terms, self.terms, of_p.a).arity;
+        let rows = self.rows(stores.terms);
+        let of_p = row(rows, f.term);
+        let of_t = row(rows, t);
+        let left = row(rows, of_p.a).arity;
         Cited {
             one: false,
             p: f,
-            q: no_fact(),
+            q: Fact::default(),
             t,
             w: 0,
             of_p,
@@ -90,7 +89,7 @@ impl Trial {
     fn resume_with(&self, fork: Fork, m: u16, n: u8, alt: Alt) -> Result<Outcome, Refusal>
         requires { (1 ≤ self.now.forks) × ((m ≤ self.now.facts) × (n ≤ 64)) }
         ensures is { result ≡ resumed_with self.now.forks fork m n alt }
-        ensures room { IfOk result (λ o. Roomy (counts self.now) o) }
+        ensures room { IfOk result (λ o. Roomy (counts_of self.now) o) }
     {
         if many_names(n, alt) {
             return Err(Refusal::NoRoom(Room::Names));
@@ -105,14 +104,14 @@ impl Trial {
     // The latest fork's next alternative, from the counts of facts and names where the fork stands.
     fn resume(&self, stores: &Stores, fork: Fork) -> Result<Outcome, Refusal>
         requires { 1 ≤ self.now.forks }
-        ensures is { result ≡ resumed (counts self.now)
-            (rows_of (counts self.now) (held stores.now))
-            (branch_facts (counts self.now) (held stores.now)) fork }
-        ensures room { IfOk result (λ o. Roomy (counts self.now) o) }
+        ensures is { result ≡ resumed (counts_of self.now)
+            (rows_of (counts_of self.now) (held stores.now))
+            (branch_facts (counts_of self.now) (held stores.now)) fork }
+        ensures room { IfOk result (λ o. Roomy (counts_of self.now) o) }
     {
-        let m = at_most(self.facts, fork.facts);
-        let n = at_most(64, fork.names as u16) as u8;
-        let f = fact_or_none(stores.facts, self.facts, fork.p);
+        let m = fork.facts.min(self.facts);
+        let n = fork.names.min(64);
+        let f = fact_or_none(self.branch(stores.facts), fork.p);
         let cited = self.cite_again(stores, f, fork.t);
         let alt = alternative(fork.rule, cited, n, fork.next);
         self.resume_with(fork, m, n, alt)
@@ -120,14 +119,14 @@ impl Trial {
 
     // A rule without alternatives: the branch closes, and the latest fork is resumed, if there is one.
     fn close(&self, stores: &Stores) -> Result<Outcome, Refusal>
-        ensures is { result ≡ closing (counts self.now)
-            (rows_of (counts self.now) (held stores.now))
-            (branch_facts (counts self.now) (held stores.now))
-            (slice_get (forks_of (counts self.now) (held stores.now))
+        ensures is { result ≡ closing (counts_of self.now)
+            (rows_of (counts_of self.now) (held stores.now))
+            (branch_facts (counts_of self.now) (held stores.now))
+            (slice_get (forks_of (counts_of self.now) (held stores.now))
             (self.now.forks - 1)) }
-        ensures room { IfOk result (λ o. Roomy (counts self.now) o) }
+        ensures room { IfOk result (λ o. Roomy (counts_of self.now) o) }
     {
-        match latest(stores.forks, self.forks) {
+        match self.latest(stores.forks) {
             None => Ok(Outcome::Closes),
             Some(fork) => self.resume(stores, fork),
         }
@@ -140,19 +139,15 @@ impl Trial {
         stores: &Stores,
         x: Step,
     ) -> Result<Outcome, Refusal>
-        ensures is { result ≡ come_to (K.Kind.meaning kind.now) (counts self.now)
+        ensures is { result ≡ come_to (K.Kind.meaning kind.now) (counts_of self.now)
             (held stores.now) x }
-        ensures room { IfOk result (λ o. Roomy (counts self.now) o) }
+        ensures room { IfOk result (λ o. Roomy (counts_of self.now) o) }
     {
-        match self.plan(kind, stores, x) {
-            Err(refusal) => Err(refusal),
-            Ok(Plan { rule, cited }) => {
-                if alternatives(rule) == 0 {
-                    self.close(stores)
-                } else {
-                    self.grow(x, rule, cited)
-                }
-            }
+        let Plan { rule, cited } = self.plan(kind, stores, x)?;
+        if alternatives(rule) == 0 {
+            self.close(stores)
+        } else {
+            self.grow(x, rule, cited)
         }
     }
 }

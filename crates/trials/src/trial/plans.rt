@@ -3,10 +3,10 @@ ghost use Rattle.std.specs.Prelude.{◌≡◌};
 ghost use Rattle.rules.specs.Looked.{cited_by, planned};
 ghost use Rattle.calls.specs.RuleSteps.{codes_of, rows_of, branch_facts};
 ghost use Rattle.stores.specs.View.{held};
-ghost use Rattle.trials.specs.View.{counts};
+ghost use Rattle.trials.specs.View.{counts_of};
 
-use super::Trial;
 use crate::looks::{label_pair, look, row};
+use crate::progress::Progress;
 use labels::kind::Kind;
 use records::refusal::Refusal;
 use records::rows::{Fact, Step};
@@ -15,7 +15,7 @@ use rules::cited::{Cited, Plan};
 use rules::{met, uses, zeros};
 use stores::lent::Stores;
 
-impl Trial {
+impl Progress {
     // What the step cites, where its fields p and q number the facts f and g.
     fn cite<K: Kind>(
         &self,
@@ -27,13 +27,14 @@ impl Trial {
         g: Fact,
     ) -> Cited
         ensures { result ≡ cited_by (K.Kind.meaning kind.now)
-            (codes_of (counts self.now) (held stores.now))
-            (rows_of (counts self.now) (held stores.now)) rule x f g }
+            (codes_of (counts_of self.now) (held stores.now))
+            (rows_of (counts_of self.now) (held stores.now)) rule x f g }
     {
-        let of_p = row(stores.terms, self.terms, f.term);
-        let of_t = row(stores.terms, self.terms, x.t);
-        let left = row(stores.terms, self.terms, of_p.a).arity;
-        let labels = label_pair(kind, stores.labels, self.labels, rule, f, x.t, x.w);
+        let rows = self.rows(stores.terms);
+        let of_p = row(rows, f.term);
+        let of_t = row(rows, x.t);
+        let left = row(rows, of_p.a).arity;
+        let labels = label_pair(kind, stores.labels, self.sizes.labels, rule, f, x.t, x.w);
         Cited {
             one: x.p == x.q,
             p: f,
@@ -50,16 +51,17 @@ impl Trial {
     // The step's rule with what it cites, where its line is met.
     pub(crate) fn plan<K: Kind>(&self, kind: &K, stores: &Stores, x: Step) -> Result<Plan, Refusal>
         ensures { result ≡ planned (K.Kind.meaning kind.now)
-            (codes_of (counts self.now) (held stores.now))
-            (rows_of (counts self.now) (held stores.now))
-            (branch_facts (counts self.now) (held stores.now)) x }
+            (codes_of (counts_of self.now) (held stores.now))
+            (rows_of (counts_of self.now) (held stores.now))
+            (branch_facts (counts_of self.now) (held stores.now)) x }
     {
         let rule = Rule::try_from(x.rule)?;
         let uses = uses(rule);
-        let Some(f) = look(uses.p, stores.facts, self.facts, x.p) else {
+        let branch = self.branch(stores.facts);
+        let Some(f) = look(uses.p, branch, x.p) else {
             return Err(Refusal::NotOnBranch(x.p));
         };
-        let Some(g) = look(uses.q, stores.facts, self.facts, x.q) else {
+        let Some(g) = look(uses.q, branch, x.q) else {
             return Err(Refusal::NotOnBranch(x.q));
         };
         let cited = self.cite(kind, stores, rule, x, f, g);

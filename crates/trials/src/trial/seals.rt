@@ -16,12 +16,7 @@ impl Trial {
         ensures answer { trial_told result ≡ seal_of (filling_of sheet) (held stores.now) }
         ensures back { IfErr result (λ e. filling_of e.0 ≡ filling_of sheet) }
     {
-        match sheet.seal(stores) {
-            Ok(full) => {
-                let sizes = full.sizes();
-                Ok(Trial::begin(sizes.labels, sizes.free, sizes.terms, sizes.constraints))
-            }
-            Err(refused) => Err(refused),
-        }
+        let full = sheet.seal(stores)?;
+        Ok(Trial::begin(full.sizes()))
     }
 }

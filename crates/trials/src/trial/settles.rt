@@ -9,41 +9,6 @@ use crate::settled::Settled;
 use records::refusal::Refusal;
 
 impl Trial {
-    // The settled trial, with the same numbers; a trial without a verdict comes back as it is.
-    fn end(self) -> Result<Settled, (Trial, Refusal)>
-        ensures { MatchResult result
-            (λ s. (settle_of (counts self) ≡ Ok tt) × (settled_counts s ≡ counts self))
-            (λ e. (settle_of (counts self) ≡ Err e.1) × (e.0 ≡ self)) }
-    {
-        if !self.verdict.reached() {
-            return Err((self, Refusal::NoVerdict));
-        }
-        let Trial {
-            labels,
-            free,
-            terms,
-            constraints,
-            names,
-            facts,
-            forks,
-            granted,
-            denied,
-            verdict,
-        } = self;
-        Ok(Settled {
-            labels,
-            free,
-            terms,
-            constraints,
-            names,
-            facts,
-            forks,
-            granted,
-            denied,
-            verdict,
-        })
-    }
-
     // The settled trial, with the same numbers; a trial without a verdict comes back as it is. The law of
     // verdicts stands here, entire: whatever calls led to this trial, CLOSED says that no interpretation
     // satisfies the sheet, OPEN that every interpretation which the listing tells does, and the functions that
@@ -54,25 +19,18 @@ impl Trial {
             (λ e. (settle_of (counts self) ≡ Err e.1) × (e.0 ≡ self)) }
         ensures law { CallsStand }
     {
-        self.end()
+        if !self.progress.verdict.reached() {
+            return Err((self, Refusal::NoVerdict));
+        }
+        let Trial { progress } = self;
+        Ok(Settled { progress })
     }
 
     // Ends a trial that is not to be settled, and says how many records were granted.
     pub fn give_up(self) -> u32
         ensures { result ≡ (counts self).granted }
     {
-        let Trial {
-            labels: _,
-            free: _,
-            terms: _,
-            constraints: _,
-            names: _,
-            facts: _,
-            forks: _,
-            granted: so_far,
-            denied: _,
-            verdict: _,
-        } = self;
-        so_far
+        let Trial { progress } = self;
+        progress.granted
     }
 }

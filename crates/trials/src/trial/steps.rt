@@ -4,22 +4,22 @@ ghost use Rattle.records.specs.Reading.{rule};
 ghost use Rattle.calls.specs.Stores.{Enough};
 ghost use Rattle.calls.specs.Trials.{stepped_at};
 ghost use Rattle.stores.specs.View.{held, tuples_of, Same};
-ghost use Rattle.trials.specs.View.{counts};
+ghost use Rattle.trials.specs.View.{counts_of};
 ghost use Rattle.trials.specs.Steps.{Ready, decided};
 
-use super::Trial;
+use crate::progress::Progress;
 use labels::kind::Kind;
 use records::refusal::Refusal;
 use records::rows::Step;
 use rules::outcome::Outcome;
 use stores::lent::Stores;
 
-impl Trial {
+impl Progress {
     // What the step comes to, unless a million records are granted.
     fn decide<K: Kind>(&self, kind: &K, stores: &Stores, x: Step) -> Result<Outcome, Refusal>
-        ensures is { result ≡ decided (K.Kind.meaning kind.now) (counts self.now)
+        ensures is { result ≡ decided (K.Kind.meaning kind.now) (counts_of self.now)
             (held stores.now) x }
-        ensures ready { IfOk result (λ o. Ready (counts self.now) o) }
+        ensures ready { IfOk result (λ o. Ready (counts_of self.now) o) }
     {
         if self.granted >= 1_000_000 {
             return Err(Refusal::RecordsSpent);
@@ -38,11 +38,11 @@ impl Trial {
         requires { Enough (held stores.old) }
         ensures all { record {
           result = result;
-          trial = counts self.new;
+          trial = counts_of self.new;
           stores = held stores.new;
         }
             ≡ stepped_at self.old.verdict (K.Kind.meaning kind.now)
-            (counts self.old) (held stores.old) (rule x) }
+            (counts_of self.old) (held stores.old) (rule x) }
         ensures same { Same stores.old stores.new }
         ensures tuples { tuples_of stores.new ≡ tuples_of stores.old }
     {

@@ -20,43 +20,14 @@ use stores::lent::Stores;
 impl Trial {
     // Denies a record that is no step.
     fn deny_other(&mut self) -> Result<(), Refusal>
-        ensures answer { result ≡ Err (other_answer self.old.verdict) }
+        ensures answer { result ≡ Err (other_answer self.old.progress.verdict) }
         ensures trial { counts self.new ≡ denied_once (counts self.old) }
     {
-        let verdict = self.verdict;
-        self.deny();
+        let verdict = self.progress.verdict;
+        self.progress.deny();
         match verdict {
             Verdict::Undecided => Err(Refusal::NotStep),
             Verdict::Closed | Verdict::Open => Err(Refusal::VerdictReached),
-        }
-    }
-
-    // One step, by a rule or by a model.
-    fn take_step<K: Kind>(
-        &mut self,
-        kind: &K,
-        stores: &mut Stores,
-        bytes: &[u8],
-    ) -> Result<(), Refusal>
-        ensures all { (Whole (counts self.old) (held stores.old) → record {
-          result = result;
-          trial = counts self.new;
-          stores = held stores.new;
-        }
-            ≡ step_of (K.Kind.meaning kind.now) (counts self.old)
-            (held stores.old) bytes.now) }
-        ensures same { Same stores.old stores.new }
-    {
-        if !large_enough(stores) {
-            self.deny();
-            return Err(Refusal::StoresShort);
-        }
-        match read_step(bytes) {
-            Some(StepRecord::Rule(x)) => self.step_rule(kind, stores, x),
-            Some(StepRecord::Model(count, representatives)) => {
-                self.step_model(kind, stores, count, representatives)
-            }
-            None => self.deny_other(),
         }
     }
 
@@ -79,6 +50,17 @@ impl Trial {
         ensures same { Same stores.old stores.new }
         ensures exact { StepsGrantedExactly }
     {
-        self.take_step(kind, stores, bytes)
+        if !large_enough(stores) {
+            self.progress.deny();
+            return Err(Refusal::StoresShort);
+        }
+        match read_step(bytes) {
+            Some(StepRecord::Rule(x)) => self.progress.step_rule(kind, stores, x),
+            Some(StepRecord::Model(count, representatives)) => {
+                self.progress
+                    .step_model(kind, stores, count, representatives)
+            }
+            None => self.deny_other(),
+        }
     }
 }

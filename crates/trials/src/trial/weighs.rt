@@ -1,26 +1,24 @@
 // A step by a model: it is weighed by reading and by the tuple store alone, and then acted on.
-ghost use Rattle.std.specs.Prelude.{◌≡◌, ◌<◌, ◌≤◌, length, take, Ok, Err, MatchResult};
+ghost use Rattle.std.specs.Prelude.{◌≡◌, ◌<◌, ◌≤◌, length, MatchResult};
 ghost use Rattle.records.specs.Reading.{model};
 ghost use Rattle.models.specs.Checks.{Answers};
 ghost use Rattle.calls.specs.Stores.{Enough};
-ghost use Rattle.calls.specs.RuleSteps.{at_most};
+ghost use Rattle.calls.specs.RuleSteps.{at_most, codes_of, rows_of, branch_facts};
 ghost use Rattle.calls.specs.Trials.{stepped_at};
 ghost use Rattle.calls.specs.Views.{Whole};
 ghost use Rattle.stores.specs.View.{held, Same};
-ghost use Rattle.trials.specs.View.{counts};
+ghost use Rattle.trials.specs.View.{counts_of};
 ghost use Rattle.trials.specs.Steps.{weighed_at, answered};
 
-use super::Trial;
-use crate::firsts::front;
-use crate::room::at_most;
+use crate::progress::Progress;
 use labels::kind::Kind;
 use models::check_model;
 use records::refusal::Refusal;
 use stores::lent::Stores;
 use values::tuple::Tuple;
 
-impl Trial {
-    // A model checked against the first places of the stores, with the tuple store lent apart.
+impl Progress {
+    // A model checked against the fronts of the stores, with the tuple store lent apart.
     fn check<K: Kind>(
         &self,
         kind: &K,
@@ -30,26 +28,21 @@ impl Trial {
         representatives: &[u8],
     ) -> Result<(), Refusal>
         requires room { 4096 ≤ length tuples.old }
-        requires labels { 32 ≤ length stores.now.labels.now }
-        requires terms { 64 ≤ length stores.now.terms.now }
         requires facts { 1024 ≤ length stores.now.facts.now }
         ensures { Answers (K.Kind.meaning kind.now)
-            (take self.now.labels stores.now.labels.now)
-            (take self.now.terms stores.now.terms.now)
-            (take self.now.facts stores.now.facts.now)
-            (at_most self.now.facts self.now.constraints) self.now.names
+            (codes_of (counts_of self.now) (held stores.now))
+            (rows_of (counts_of self.now) (held stores.now))
+            (branch_facts (counts_of self.now) (held stores.now))
+            (at_most self.now.facts self.now.sizes.constraints) self.now.names
             count representatives.now result }
     {
-        let labels = front(stores.labels, self.labels as usize);
-        let terms = front(stores.terms, self.terms as usize);
-        let facts = front(stores.facts, self.facts as usize);
-        let constraints = at_most(self.facts, self.constraints as u16) as usize;
+        let constraints = self.facts.min(u16::from(self.sizes.constraints));
         check_model(
             kind,
-            labels,
-            terms,
-            facts,
-            constraints,
+            self.codes(stores.labels),
+            self.rows(stores.terms),
+            self.branch(stores.facts),
+            usize::from(constraints),
             self.names,
             tuples,
             count,
@@ -66,9 +59,9 @@ impl Trial {
         representatives: &[u8],
     ) -> Result<(), Refusal>
         requires { Enough (held stores.old) }
-        ensures answer { Whole (counts self.now) (held stores.old) → result ≡
+        ensures answer { Whole (counts_of self.now) (held stores.old) → result ≡
             weighed_at self.now.verdict (K.Kind.meaning kind.now)
-            (counts self.now) (held stores.old) count
+            (counts_of self.now) (held stores.old) count
             representatives.now }
         ensures few { MatchResult result
             (λ _. (length representatives.now ≤ 64) × (self.now.granted < 1000000))
@@ -79,7 +72,7 @@ impl Trial {
         if self.verdict.reached() {
             return Err(Refusal::VerdictReached);
         }
-        if representatives.len() != count as usize {
+        if representatives.len() != usize::from(count) {
             return Err(Refusal::NotStep);
         }
         if self.granted >= 1_000_000 {
@@ -88,6 +81,7 @@ impl Trial {
         if count != self.names {
             return Err(Refusal::Unlawful(255));
         }
+        // Tried without: no loan of the tuples is covered beside loans of other fields behind one `&mut`.
         let tuples = std::mem::replace(&mut stores.tuples, &mut []);
         let answer = self.check(kind, stores, tuples, count, representatives);
         stores.tuples = tuples;
@@ -104,13 +98,13 @@ impl Trial {
         representatives: &[u8],
     ) -> Result<(), Refusal>
         requires { Enough (held stores.old) }
-        ensures all { (Whole (counts self.old) (held stores.old) → record {
+        ensures all { (Whole (counts_of self.old) (held stores.old) → record {
           result = result;
-          trial = counts self.new;
+          trial = counts_of self.new;
           stores = held stores.new;
         }
             ≡ stepped_at self.old.verdict (K.Kind.meaning kind.now)
-            (counts self.old) (held stores.old)
+            (counts_of self.old) (held stores.old)
             (model count representatives.now)) }
         ensures same { Same stores.old stores.new }
     {
@@ -129,10 +123,10 @@ impl Trial {
             (λ _. (length representatives.now ≤ 64) × (self.old.granted < 1000000)) (λ _. Unit {0})) }
         ensures all { record {
           result = result;
-          trial = counts self.new;
+          trial = counts_of self.new;
           stores = held stores.new;
         }
-            ≡ answered (counts self.old) (held stores.old)
+            ≡ answered (counts_of self.old) (held stores.old)
             representatives.now answer }
         ensures same { Same stores.old stores.new }
     {

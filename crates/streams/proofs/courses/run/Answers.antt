@@ -11,7 +11,7 @@ use Rattle.streams.proofs.courses.run.Goals as goal
 
 pub fill-requires : goal.fill-requires
 fill-requires g c =
-    make_kept g.K.Kind.letter (held c.args.stores.now) c.cut_off-first.result.record.now (filling_of c.in-Ok.sheet)
+    make_kept g.K.Kind.letter (held c.args.stores.now) c.cut_off.result.0.now (filling_of c.in-Ok.sheet)
     c.in-Ok.ensures c.requires
 
 pub returns-in-Ok-clause-course : goal.returns-in-Ok-clause-course
@@ -20,8 +20,8 @@ returns-in-Ok-clause-course g c =
     let h : Held = held c.args.stores.now in
     let f = filling_of c.in-Ok.sheet in
     course_on g.K.Kind.letter K h c.args.stream.now (Ok f)
-    (c.in-Ok.ensures ∙ ap (make_of g.K.Kind.letter h) c.cut_off-first.ensures.record)
-    ∙ ap (λ (xs : List ℕ). rows_from K (rows_due f) f h 2 (records_of xs)) (sym c.cut_off-first.ensures.rest)
+    (c.in-Ok.ensures ∙ ap (make_of g.K.Kind.letter h) c.cut_off.ensures.first)
+    ∙ ap (λ (xs : List ℕ). rows_from K (rows_due f) f h 2 (records_of xs)) (sym c.cut_off.ensures.rest)
     ∙ c.fill.ensures.course
 
 pub returns-in-Err-clause-course : goal.returns-in-Err-clause-course
@@ -29,4 +29,4 @@ returns-in-Err-clause-course g c =
     let K : ℕ → Option ℕ = g.K.Kind.meaning c.args.kind.now in
     let h : Held = held c.args.stores.now in
     course_on g.K.Kind.letter K h c.args.stream.now (Err c.in-Err.refusal)
-    (c.in-Err.ensures ∙ ap (make_of g.K.Kind.letter h) c.cut_off-first.ensures.record)
+    (c.in-Err.ensures ∙ ap (make_of g.K.Kind.letter h) c.cut_off.ensures.first)

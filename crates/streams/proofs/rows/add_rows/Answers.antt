@@ -20,7 +20,7 @@ returns-in-Err g c =
           (sym c.due-due.ensures)
           ∙ c.loop-i.invariant.0
           ∙ row_on K c.due-due.result c.loop-i.i f h c.loop-i.rest.now _ c.loop-i-test.true
-          (c.in-Err.ensures.all ∙ ap (add_of K f h) c.cut_off-next.ensures.record)
+          (c.in-Err.ensures.all ∙ ap (add_of K f h) c.cut_off.ensures.first)
           ∙ ap (λ (i : ℕ). stopped c.in-Err.refusal (2 + i) (held c.add.new.stores)) (sym c.from.ensures);
       orderly = tt;
       same = same_on _ _ _ c.loop-i.invariant.2 c.in-Err.ensures.same;
@@ -34,10 +34,10 @@ loop-i-preserved g c =
     let f' : Filling = filling_of c.add.new.self in
     let h' : Held = held c.add.new.stores in
     let bs : List ℕ = c.loop-i.rest.now in
-    let row = c.in_default.ensures.all ∙ ap (add_of K f h) c.cut_off-next.ensures.record in (
+    let row = c.in_default.ensures.all ∙ ap (add_of K f h) c.cut_off.ensures.first in (
       c.loop-i.invariant.0
           ∙ row_granted K c.due-due.result c.loop-i.i f h bs f' h' c.loop-i-test.true row
-          ∙ ap (λ (xs : List ℕ). rows_from K (c.due-due.result - (c.loop-i.i + 1)) f' h' (2 + (c.loop-i.i + 1)) (records_of xs)) (sym c.cut_off-next.ensures.rest),
+          ∙ ap (λ (xs : List ℕ). rows_from K (c.due-due.result - (c.loop-i.i + 1)) f' h' (2 + (c.loop-i.i + 1)) (records_of xs)) (sym c.cut_off.ensures.rest),
       row_kept K f h (first_record bs) f' h' row c.loop-i.invariant.1,
       same_on _ _ _ c.loop-i.invariant.2 c.in_default.ensures.same,
     )

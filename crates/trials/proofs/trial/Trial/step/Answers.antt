@@ -1,9 +1,14 @@
 use Rattle.calls.proofs.Standing.{steps_granted_exactly}
 use Rattle.trials.proofs.trial.Trial.step.Goals as goal
 
-pub returns : goal.returns
-returns g c = record {
-  all = c.take_step.ensures.all;
-  same = c.take_step.ensures.same;
-  exact = steps_granted_exactly;
-}
+pub returns-then-not-large_enough-clause-exact : goal.returns-then-not-large_enough-clause-exact
+returns-then-not-large_enough-clause-exact g c = steps_granted_exactly
+
+pub returns-in-Some-Rule-clause-exact : goal.returns-in-Some-Rule-clause-exact
+returns-in-Some-Rule-clause-exact g c = steps_granted_exactly
+
+pub returns-in-Some-Model-clause-exact : goal.returns-in-Some-Model-clause-exact
+returns-in-Some-Model-clause-exact g c = steps_granted_exactly
+
+pub returns-in-None-clause-exact : goal.returns-in-None-clause-exact
+returns-in-None-clause-exact g c = steps_granted_exactly
