@@ -1,2 +1,1 @@
-mod Passing
 mod Granted

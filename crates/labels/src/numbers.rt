@@ -3,8 +3,8 @@ ghost use Rattle.std.proofs.Math.Option.{Option};
 ghost use Rattle.labels.specs.Kinds.{known_by, sameness_by};
 ghost use Rattle.labels.specs.Numbers.{number_value};
 
-use super::kind::{Kind, compare};
-use super::sameness::Sameness;
+use super::kind::Kind;
+use super::no_value::NoValue;
 
 // The first code that is no number label.
 const CODES: u32 = 1_000_000;
@@ -16,25 +16,21 @@ pub struct Numbers;
 impl Kind for Numbers {
     const LETTER: u8 = b'N';
 
-    ghost letter = { 78 };
+    ghost LETTER = { 78 };
 
     ghost meaning = { λ _. number_value };
-
-    fn letter_byte(&self) -> u8 {
-        Self::LETTER
-    }
 
     fn known(&self, code: u32) -> bool {
         code < CODES
     }
 
-    fn same(&self, a: u32, b: u32) -> Sameness {
+    fn same(&self, a: u32, b: u32) -> Result<bool, NoValue> {
         if a >= CODES {
-            Sameness::NoValue(a)
+            Err(NoValue(a))
         } else if b >= CODES {
-            Sameness::NoValue(b)
+            Err(NoValue(b))
         } else {
-            compare(a, b)
+            Ok(a == b)
         }
     }
 }

@@ -3,8 +3,8 @@ ghost use Rattle.std.proofs.Math.Option.{Option};
 ghost use Rattle.labels.specs.Kinds.{known_by, sameness_by};
 ghost use Rattle.labels.specs.Tags.{tag_character, raised, is_tag, raised_code, tag_value};
 
-use super::kind::{Kind, compare};
-use super::sameness::Sameness;
+use super::kind::Kind;
+use super::no_value::NoValue;
 
 // Tags: codes of four characters, of which the small letters count as capitals.
 #[derive(Clone, Copy)]
@@ -40,31 +40,27 @@ fn raise_code(code: u32) -> u32
     ensures { result ≡ raised_code code }
 {
     let [a, b, c, d] = code.to_be_bytes();
-    records::code_of(raise(a), raise(b), raise(c), raise(d))
+    u32::from_be_bytes([raise(a), raise(b), raise(c), raise(d)])
 }
 
 impl Kind for Tags {
     const LETTER: u8 = b'T';
 
-    ghost letter = { 84 };
+    ghost LETTER = { 84 };
 
     ghost meaning = { λ _. tag_value };
-
-    fn letter_byte(&self) -> u8 {
-        Self::LETTER
-    }
 
     fn known(&self, code: u32) -> bool {
         is_tag(code)
     }
 
-    fn same(&self, a: u32, b: u32) -> Sameness {
+    fn same(&self, a: u32, b: u32) -> Result<bool, NoValue> {
         if !is_tag(a) {
-            Sameness::NoValue(a)
+            Err(NoValue(a))
         } else if !is_tag(b) {
-            Sameness::NoValue(b)
+            Err(NoValue(b))
         } else {
-            compare(raise_code(a), raise_code(b))
+            Ok(raise_code(a) == raise_code(b))
         }
     }
 }

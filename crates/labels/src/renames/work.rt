@@ -1,36 +1,36 @@
-ghost use Rattle.std.specs.Prelude.{◌≡◌, ℕ, []};
+ghost use Rattle.std.specs.Prelude.{◌≡◌, ◌==◌, ℕ, [], find};
 ghost use Rattle.std.proofs.Math.Option.{Option};
 ghost use Rattle.labels.specs.Kinds.{known_by, sameness_by};
 ghost use Rattle.labels.specs.Renames.{target, held_old, held_pairs, kind_below, rename_answer, rename_pairs};
 
 use super::Renames;
 use crate::kind::Kind;
+use crate::no_value::NoValue;
 use crate::pair::Pair;
-use crate::sameness::Sameness;
 use records::refusal::Refusal;
+
+// The first pair that has this old code.
+fn find_old(pairs: &[Pair], code: u32) -> Option<Pair>
+    ensures { result ≡ find (λ p. p.old == code) pairs.now }
+{
+    pairs.iter().copied().find(|pair| pair.old == code)
+}
 
 // What the pairs make of a code: the new code of the pair that has it as its old one, or the code itself.
 fn target_of(pairs: &[Pair], code: u32) -> u32
-    ensures { result ≡ target pairs.entry.now code }
+    ensures { result ≡ target pairs.now code }
 {
-    for i in 0..pairs.len() {
-        if pairs[i].old == code {
-            return pairs[i].new;
-        }
+    match find_old(pairs, code) {
+        Some(pair) => pair.new,
+        None => code,
     }
-    code
 }
 
 // Whether a pair has this old code.
 fn holds_old(pairs: &[Pair], code: u32) -> bool
-    ensures { result ≡ held_old pairs.entry.now code }
+    ensures { result ≡ held_old pairs.now code }
 {
-    for i in 0..pairs.len() {
-        if pairs[i].old == code {
-            return true;
-        }
-    }
-    false
+    pairs.iter().any(|pair| pair.old == code)
 }
 
 impl<K> Renames<K> {
@@ -80,27 +80,20 @@ impl<K> Renames<K> {
 impl<K: Kind> Kind for Renames<K> {
     const LETTER: u8 = K::LETTER;
 
-    ghost letter = { K.Kind.letter };
+    ghost LETTER = { K.Kind.LETTER };
 
     ghost meaning = { λ layer code. K.Kind.meaning (kind_below layer) (target (held_pairs layer) code) };
-
-    fn letter_byte(&self) -> u8 {
-        self.below.letter_byte()
-    }
 
     fn known(&self, code: u32) -> bool {
         self.below.known(self.target(code))
     }
 
-    fn same(&self, a: u32, b: u32) -> Sameness {
+    fn same(&self, a: u32, b: u32) -> Result<bool, NoValue> {
         let x = self.target(a);
         let y = self.target(b);
         if !self.below.known(x) {
-            return Sameness::NoValue(a);
+            return Err(NoValue(a));
         }
-        match self.below.same(x, y) {
-            Sameness::NoValue(_) => Sameness::NoValue(b),
-            answer => answer,
-        }
+        self.below.same(x, y).map_err(|_| NoValue(b))
     }
 }
