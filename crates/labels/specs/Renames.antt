@@ -1,5 +1,5 @@
 -- A layer of renames: its pairs, what they make of a code, and what the call that adds one does.
-use Rattle.std.specs.Prelude.{ℕ, Bool, true, false, cond, List, [], ◌∷◌, ◌++◌, length, take, Option, Some, None, find, Ok, Err, Result, ◌==◌, nat_le}
+use Rattle.std.specs.Prelude.{ℕ, Bool, cond, List, [], ◌∷◌, ◌++◌, length, Option, Some, None, find, Ok, Err, Result, ◌==◌, nat_le}
 use Rattle.std.specs.List.{list_any}
 use Rattle.records.specs.declared.refusal.Refusal.{Refusal}
 use Rattle.records.specs.declared.refusal.Refusal.TheVariants.{PairsFull, OldHeld}
@@ -8,7 +8,7 @@ use Rattle.labels.specs.declared.renames.Renames.{Renames}
 
 -- the pairs that a layer holds, in the order in which they were added
 abbrev pub held_pairs : {K : Type 0} → Renames K → List Pair
-held_pairs layer = take layer.count layer.pairs
+held_pairs layer = layer.pairs.items
 
 -- the kind that it is laid over
 abbrev pub kind_below : {K : Type 0} → Renames K → K

@@ -17,7 +17,9 @@ fn are_same<K: Kind>(kind: &K, a: u32, b: u32) -> bool
 fn first_same<K: Kind>(kind: &K, earlier: &[u32], code: u32) -> Option<usize>
     ensures { result ≡ first_same (K.meaning kind.now) earlier.now 0 code }
 {
-    earlier.iter().position(|before| are_same(kind, *before, code))
+    earlier
+        .iter()
+        .position(|before| are_same(kind, *before, code))
 }
 
 // The first of the codes before it that is the same label, or the fault that it has no value.

@@ -1,7 +1,7 @@
 ghost use Rattle.std.specs.Prelude.{◌≡◌, ℕ};
 ghost use Rattle.std.proofs.Math.Option.{Option};
 ghost use Rattle.labels.specs.Kinds.{known_by, sameness_by};
-ghost use Rattle.labels.specs.Tags.{tag_character, raised, is_tag, raised_code, tag_value};
+ghost use Rattle.labels.specs.Tags.{tag_character, is_tag, raised_code, tag_value};
 
 use super::kind::Kind;
 use super::no_value::NoValue;
@@ -14,17 +14,7 @@ pub struct Tags;
 fn is_tag_character(byte: u8) -> bool
     ensures { result ≡ tag_character byte }
 {
-    matches!(byte, b'A'..=b'Z' | b'a'..=b'z' | b'0'..=b'9' | b'-')
-}
-
-// A small letter as its capital.
-fn raise(byte: u8) -> u8
-    ensures { result ≡ raised byte }
-{
-    match byte {
-        b'a'..=b'z' => byte - 32,
-        _ => byte,
-    }
+    byte.is_ascii_alphanumeric() || byte == b'-'
 }
 
 // Whether the four bytes of a code are characters of a tag.
@@ -39,8 +29,9 @@ fn is_tag(code: u32) -> bool
 fn raise_code(code: u32) -> u32
     ensures { result ≡ raised_code code }
 {
-    let [a, b, c, d] = code.to_be_bytes();
-    u32::from_be_bytes([raise(a), raise(b), raise(c), raise(d)])
+    let mut bytes = code.to_be_bytes();
+    bytes.make_ascii_uppercase();
+    u32::from_be_bytes(bytes)
 }
 
 impl Kind for Tags {

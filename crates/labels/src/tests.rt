@@ -1,24 +1,13 @@
 use super::kind::Kind;
+use super::no_value::NoValue;
 use super::numbers::Numbers;
 use super::renames::Renames;
-use super::sameness::Sameness;
 use super::tags::Tags;
 use records::refusal::Refusal;
 
 // The code of four characters.
 fn tag(characters: [u8; 4]) -> u32 {
     u32::from_be_bytes(characters)
-}
-
-fn is_same(answer: Sameness) -> bool {
-    matches!(answer, Sameness::Same)
-}
-
-fn fault(answer: Sameness) -> u32 {
-    match answer {
-        Sameness::NoValue(code) => code,
-        _ => 0,
-    }
 }
 
 fn refusal(answer: Result<(), Refusal>) -> (u8, u64) {
@@ -32,21 +21,21 @@ fn refusal(answer: Result<(), Refusal>) -> (u8, u64) {
 fn numbers_end_below_a_million(rt: HostRuntime) {
     assert!(rt; Numbers.known(0) && Numbers.known(999_999));
     assert!(rt; !Numbers.known(1_000_000));
-    assert!(rt; is_same(Numbers.same(7, 7)));
-    assert!(rt; !is_same(Numbers.same(7, 9)));
-    assert_eq!(rt; fault(Numbers.same(7, 1_000_000)), 1_000_000);
-    assert_eq!(rt; fault(Numbers.same(2_000_000, 1_000_000)), 2_000_000);
+    assert_eq!(rt; Numbers.same(7, 7), Ok(true));
+    assert_eq!(rt; Numbers.same(7, 9), Ok(false));
+    assert_eq!(rt; Numbers.same(7, 1_000_000), Err(NoValue(1_000_000)));
+    assert_eq!(rt; Numbers.same(2_000_000, 1_000_000), Err(NoValue(2_000_000)));
 }
 
 #[test]
 fn tags_read_small_letters_as_capitals(rt: HostRuntime) {
-    assert!(rt; is_same(Tags.same(tag(*b"V-07"), tag(*b"v-07"))));
-    assert!(rt; !is_same(Tags.same(tag(*b"V-07"), tag(*b"V-08"))));
+    assert_eq!(rt; Tags.same(tag(*b"V-07"), tag(*b"v-07")), Ok(true));
+    assert_eq!(rt; Tags.same(tag(*b"V-07"), tag(*b"V-08")), Ok(false));
     assert!(rt; Tags.known(tag(*b"Zz09")));
     assert!(rt; !Tags.known(tag(*b"V_07")));
     assert_eq!(rt;
-        fault(Tags.same(tag(*b"V-07"), tag(*b"V 07"))),
-        tag(*b"V 07")
+        Tags.same(tag(*b"V-07"), tag(*b"V 07")),
+        Err(NoValue(tag(*b"V 07")))
     );
 }
 
@@ -64,10 +53,10 @@ fn a_pair_to_an_unknown_code_takes_the_value_away(rt: HostRuntime) {
     assert_eq!(rt; refusal(layer.rename(8, 9)), (0, 0));
     assert_eq!(rt; refusal(layer.rename(9, 10)), (0, 0));
     assert!(rt; !layer.known(7));
-    assert_eq!(rt; fault(layer.same(9, 7)), 7);
-    assert!(rt; is_same(layer.same(9, 10)));
+    assert_eq!(rt; layer.same(9, 7), Err(NoValue(7)));
+    assert_eq!(rt; layer.same(9, 10), Ok(true));
     // no second renaming: 8 means 9 below, and not 10
-    assert!(rt; !is_same(layer.same(8, 10)));
+    assert_eq!(rt; layer.same(8, 10), Ok(false));
 }
 
 #[test]
@@ -76,8 +65,8 @@ fn a_layer_over_a_layer_renames_again(rt: HostRuntime) {
     assert_eq!(rt; refusal(below.rename(2, 3)), (0, 0));
     let mut layer = Renames::over(below);
     assert_eq!(rt; refusal(layer.rename(1, 2)), (0, 0));
-    assert!(rt; is_same(layer.same(1, 3)));
-    assert_eq!(rt; layer.letter_byte(), b'N');
+    assert_eq!(rt; layer.same(1, 3), Ok(true));
+    assert_eq!(rt; <Renames<Renames<Numbers>> as Kind>::LETTER, b'N');
 }
 
 #[test]
