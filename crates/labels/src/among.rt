@@ -6,8 +6,8 @@ ghost use Rattle.labels.specs.Kinds.{sameness_by};
 use super::kind::Kind;
 use super::no_value::NoValue;
 
-// Whether two codes are one label.
-fn are_same<K: Kind>(kind: &K, a: u32, b: u32) -> bool
+// Whether two codes are one label: both have values, and these are equal.
+pub fn are_same<K: Kind>(kind: &K, a: u32, b: u32) -> bool
     ensures { result ≡ is_same (sameness_by (K.meaning kind.now) a b) }
 {
     kind.same(a, b) == Ok(true)
