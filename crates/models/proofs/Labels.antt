@@ -2,7 +2,6 @@
 -- and the first that fails, from what the library says of a search over them (`each_told`, `first_told`).
 use Rattle.std.proofs.Common.{◌≡◌, ℕ, zero, suc, ◌<◌, Bool, true, false, List, [], ◌∷◌, Some, None, ◌↔◌, MatchOption, refl, sym}
 use Rattle.std.specs.List.{slice_get}
-use mathlib.Core.Option.{none, some}
 use lib.ListN.{get_elem?}
 use Rattle.calls.specs.Models.{each_below, first_bad}
 use Rattle.calls.proofs.Below.{Least, each_exact, all_good, first_bad_found}

@@ -1,9 +1,10 @@
 -- Look-ups by either kind of option: an entry that is there is the one by default (`entry_there`), and two
 -- labels compare as the kind answers for their codes (`labels_told`).
-use Rattle.std.proofs.Common.{◌≡◌, ℕ, zero, suc, Bool, true, false, cond, eqb, List, [], ◌∷◌, get_or, Some, None, refl, ap, ◌∙◌, ap₂, arith}
+use Rattle.std.proofs.Common.{◌≡◌, ℕ, zero, suc, List, [], ◌∷◌, get_or, Some, None, refl, ap, ◌∙◌, ap₂, arith}
 use mathlib.Core.Option.{Option, none, some}
 use lib.ListN.{get_elem?}
 use Rattle.std.specs.List.{slice_get}
+use Rattle.std.specs.Result.{result_ok}
 use Rattle.labels.specs.Kinds.{sameness_by, sameness}
 use Rattle.rules.specs.Looked.{label_at, coded, compared}
 
