@@ -1,6 +1,7 @@
 // What ends a program before its work is done.
-ghost use Rattle.std.specs.Prelude.{◌≡◌, false, OnOk};
+ghost use Rattle.std.specs.Prelude.{◌≡◌, true, false, Err, OnOk};
 ghost use Rattle.judging.specs.Stops.{has_failed};
+ghost use Rattle.judging.specs.declared.stop.Stop.TheVariants.{Refused, Failed};
 
 use super::line::RefusedLine;
 use records::refusal::Refusal;
@@ -15,24 +16,32 @@ pub enum Stop {
 }
 
 impl From<Refusal> for Stop {
+    ghost from_gives = { λ refusal stop. stop ≡ Refused refusal };
+
     fn from(refusal: Refusal) -> Stop {
         Stop::Refused(refusal)
     }
 }
 
 impl From<anyhow::Error> for Stop {
+    ghost from_gives = { λ failure stop. stop ≡ Failed failure };
+
     fn from(failure: anyhow::Error) -> Stop {
         Stop::Failed(failure)
     }
 }
 
 impl From<io::Error> for Stop {
+    ghost from_gives = { λ _ stop. has_failed (Err stop) ≡ true };
+
     fn from(failure: io::Error) -> Stop {
         Stop::Failed(failure.into())
     }
 }
 
 impl From<AllocError> for Stop {
+    ghost from_gives = { λ _ stop. has_failed (Err stop) ≡ true };
+
     fn from(failure: AllocError) -> Stop {
         Stop::Failed(failure.into())
     }
