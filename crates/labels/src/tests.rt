@@ -10,11 +10,9 @@ fn tag(characters: [u8; 4]) -> u32 {
     u32::from_be_bytes(characters)
 }
 
-fn refusal(answer: Result<(), Refusal>) -> (u8, u64) {
-    match answer {
-        Ok(()) => (0, 0),
-        Err(e) => (e.number(), e.detail()),
-    }
+// A refusal as a user is told of it.
+fn told(refusal: Refusal) -> (u8, u64) {
+    (refusal.number(), refusal.detail())
 }
 
 #[test]
@@ -49,9 +47,9 @@ fn a_layer_takes_the_letter_over(rt: HostRuntime) {
 #[test]
 fn a_pair_to_an_unknown_code_takes_the_value_away(rt: HostRuntime) {
     let mut layer = Renames::over(Numbers);
-    assert_eq!(rt; refusal(layer.rename(7, 1_000_000)), (0, 0));
-    assert_eq!(rt; refusal(layer.rename(8, 9)), (0, 0));
-    assert_eq!(rt; refusal(layer.rename(9, 10)), (0, 0));
+    assert_eq!(rt; layer.rename(7, 1_000_000), Ok(()));
+    assert_eq!(rt; layer.rename(8, 9), Ok(()));
+    assert_eq!(rt; layer.rename(9, 10), Ok(()));
     assert!(rt; !layer.known(7));
     assert_eq!(rt; layer.same(9, 7), Err(NoValue(7)));
     assert_eq!(rt; layer.same(9, 10), Ok(true));
@@ -62,9 +60,9 @@ fn a_pair_to_an_unknown_code_takes_the_value_away(rt: HostRuntime) {
 #[test]
 fn a_layer_over_a_layer_renames_again(rt: HostRuntime) {
     let mut below = Renames::over(Numbers);
-    assert_eq!(rt; refusal(below.rename(2, 3)), (0, 0));
+    assert_eq!(rt; below.rename(2, 3), Ok(()));
     let mut layer = Renames::over(below);
-    assert_eq!(rt; refusal(layer.rename(1, 2)), (0, 0));
+    assert_eq!(rt; layer.rename(1, 2), Ok(()));
     assert_eq!(rt; layer.same(1, 3), Ok(true));
     assert_eq!(rt; <Renames<Renames<Numbers>> as Kind>::LETTER, b'N');
 }
@@ -72,11 +70,11 @@ fn a_layer_over_a_layer_renames_again(rt: HostRuntime) {
 #[test]
 fn the_seventeenth_pair_and_an_old_code_twice_are_refused(rt: HostRuntime) {
     let mut layer = Renames::over(Tags);
-    assert_eq!(rt; refusal(layer.rename(5, 6)), (0, 0));
-    assert_eq!(rt; refusal(layer.rename(5, 7)), (23, 5));
+    assert_eq!(rt; layer.rename(5, 6), Ok(()));
+    assert_eq!(rt; layer.rename(5, 7).map_err(told), Err((23, 5)));
     for old in 100..115u32 {
-        assert_eq!(rt; refusal(layer.rename(old, 1)), (0, 0));
+        assert_eq!(rt; layer.rename(old, 1), Ok(()));
     }
-    assert_eq!(rt; refusal(layer.rename(5, 7)), (22, 0));
-    assert_eq!(rt; refusal(layer.rename(200, 7)), (22, 0));
+    assert_eq!(rt; layer.rename(5, 7).map_err(told), Err((22, 0)));
+    assert_eq!(rt; layer.rename(200, 7).map_err(told), Err((22, 0)));
 }
