@@ -16,6 +16,14 @@ known_by K code = has_value (K code)
 abbrev pub unknown : ℕ → NoValue
 unknown code = record { 0 = code }
 
+-- the value of a code, or the fault that it has none
+abbrev pub valued : ℕ → Option ℕ → Result ℕ NoValue
+valued code none = Err (unknown code)
+valued code (some x) = Ok x
+
+abbrev pub valued_by : (ℕ → Option ℕ) → ℕ → Result ℕ NoValue
+valued_by K code = valued code (K code)
+
 -- the answer for codes a and b with these values or none: the first code without one is the fault, and else
 -- yes exactly when the values are equal
 abbrev pub sameness : ℕ → ℕ → Option ℕ → Option ℕ → Result Bool NoValue

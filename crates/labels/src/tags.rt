@@ -1,6 +1,6 @@
 ghost use Rattle.std.specs.Prelude.{◌≡◌, ℕ};
 ghost use Rattle.std.proofs.Math.Option.{Option};
-ghost use Rattle.labels.specs.Kinds.{known_by, sameness_by};
+ghost use Rattle.labels.specs.Kinds.{known_by, valued_by, sameness_by};
 ghost use Rattle.labels.specs.Tags.{tag_character, is_tag, raised_code, tag_value};
 
 use super::kind::Kind;
@@ -34,6 +34,17 @@ fn raise_code(code: u32) -> u32
     u32::from_be_bytes(bytes)
 }
 
+// The value of a code: the code of its characters as capitals.
+fn value(code: u32) -> Result<u32, NoValue>
+    ensures { result ≡ valued_by tag_value code }
+{
+    if is_tag(code) {
+        Ok(raise_code(code))
+    } else {
+        Err(NoValue(code))
+    }
+}
+
 impl Kind for Tags {
     const LETTER: u8 = b'T';
 
@@ -42,16 +53,10 @@ impl Kind for Tags {
     ghost meaning = { λ _. tag_value };
 
     fn known(&self, code: u32) -> bool {
-        is_tag(code)
+        value(code).is_ok()
     }
 
     fn same(&self, a: u32, b: u32) -> Result<bool, NoValue> {
-        if !is_tag(a) {
-            Err(NoValue(a))
-        } else if !is_tag(b) {
-            Err(NoValue(b))
-        } else {
-            Ok(raise_code(a) == raise_code(b))
-        }
+        Ok(value(a)? == value(b)?)
     }
 }
