@@ -11,7 +11,6 @@ use Rattle.records.specs.declared.refusal.Refusal.TheVariants.{
 use Rattle.records.specs.declared.rule.Rule.TheVariants.{InterUp}
 use Rattle.rules.specs.declared.outcome.Fork.{Fork}
 use Rattle.rules.specs.Facts.{no_fact, no_row}
-use Rattle.labels.specs.declared.sameness.Sameness.TheVariants.{Same}
 use Rattle.labels.specs.Kinds.{known_by, sameness_by}
 use Rattle.labels.specs.Numbers.{number_value}
 use Rattle.labels.specs.Tags.{tag_value}
@@ -131,7 +130,7 @@ pub record Examples : Type 0 where
       answer (made (83 ∷ 72 ∷ 78 ∷ 1 ∷ 0 ∷ 0 ∷ 0 ∷ [])) (add (76 ∷ 66 ∷ 0 ∷ 15 ∷ 66 ∷ 64 ∷ []))
       ≡ Err (UnknownLabel 1000000)
   -- V-07 and v-07 are the same tag
-  pub same_tag : sameness_by tag_value 1445802039 1982672951 ≡ Same
+  pub same_tag : sameness_by tag_value 1445802039 1982672951 ≡ Ok true
   -- a join of two unary terms gets 7
   pub join_of_unary :
       answer

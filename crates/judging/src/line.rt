@@ -1,6 +1,8 @@
-ghost use Rattle.std.specs.Prelude.{ℕ, List, Some, Option};
+ghost use Rattle.std.specs.Prelude.{◌≡◌, ℕ, List, Some, Option};
+ghost use Rattle.records.specs.Refusals.{number_of, detail_of};
 ghost use Rattle.judging.specs.Lines.{refused_line};
 
+use records::refusal::Refusal;
 use std::fmt;
 
 // A refusal as it is printed: its number, the record that it came at, and its detail.
@@ -11,13 +13,24 @@ pub struct RefusedLine {
     pub detail: u64,
 }
 
+// A refusal by itself comes before any record is judged.
+impl From<Refusal> for RefusedLine {
+    ghost from_gives = { λ refusal line. line ≡ record { number = number_of refusal; at = 0; detail = detail_of refusal } };
+
+    fn from(refusal: Refusal) -> RefusedLine {
+        RefusedLine {
+            number: refusal.number(),
+            at: 0,
+            detail: refusal.detail(),
+        }
+    }
+}
+
 impl fmt::Display for RefusedLine {
     ghost output = { λ x. Some (refused_line x.number x.at x.detail) };
 
     fn fmt<W: fmt::Write>(&self, f: &mut fmt::Formatter<W>) -> fmt::Result {
-        let number = self.number;
-        let at = self.at;
-        let detail = self.detail;
+        let RefusedLine { number, at, detail } = *self;
         write!(f, "REFUSED {number} {at} {detail}")
     }
 }

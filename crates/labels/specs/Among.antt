@@ -1,23 +1,19 @@
 -- How a code stands among the codes before it: unknown, first of its label, or the same as an earlier one.
-use Rattle.std.specs.Prelude.{ℕ, ◌+◌, Bool, true, false, cond, List, [], ◌∷◌}
-use Rattle.std.proofs.Math.Option.{Option}
-use Rattle.labels.specs.declared.sameness.Sameness.{Sameness}
-use Rattle.labels.specs.declared.sameness.Sameness.TheVariants.{Same, Different, NoValue}
-use Rattle.labels.specs.declared.standing.Standing.{Standing}
-use Rattle.labels.specs.declared.standing.Standing.TheVariants.{Unknown, First, SameAs}
-use Rattle.labels.specs.Kinds.{known_by, sameness_by}
+use Rattle.std.specs.Prelude.{ℕ, Bool, false, cond, List, Option, Ok, Err, Result}
+use Rattle.std.specs.List.{position_from}
+use Rattle.std.proofs.Math.Option as maybe
+use Rattle.labels.specs.declared.no_value.NoValue.{NoValue}
+use Rattle.labels.specs.Kinds.{known_by, sameness_by, unknown}
 
 -- both codes are one label
-abbrev pub is_same : Sameness → Bool
-is_same Same = true
-is_same Different = false
-is_same (NoValue code) = false
+abbrev pub is_same : Result Bool NoValue → Bool
+is_same (Ok same) = same
+is_same (Err e) = false
 
--- the first of these codes, numbered from i on, that is the same label
-abbrev pub first_same : (ℕ → Option ℕ) → List ℕ → ℕ → ℕ → Standing
-first_same K [] i code = First
-first_same K (c ∷ cs) i code = cond (is_same (sameness_by K c code)) (SameAs i) (first_same K cs (i + 1) code)
+-- the place of the first of these codes, numbered from i on, that is the same label
+abbrev pub first_same : (ℕ → maybe.Option ℕ) → List ℕ → ℕ → ℕ → Option ℕ
+first_same K cs i code = position_from (λ c. is_same (sameness_by K c code)) i cs
 
--- how a code stands after the codes before it
-abbrev pub standing_of : (ℕ → Option ℕ) → List ℕ → ℕ → Standing
-standing_of K earlier code = cond (known_by K code) (first_same K earlier 0 code) Unknown
+-- how a code stands after the codes before it: no value is the fault, and else the first that is the same label
+abbrev pub standing_of : (ℕ → maybe.Option ℕ) → List ℕ → ℕ → Result (Option ℕ) NoValue
+standing_of K earlier code = cond (known_by K code) (Ok (first_same K earlier 0 code)) (Err (unknown code))

@@ -1,8 +1,7 @@
 -- What a kind's two questions answer, from its meaning: nothing or a whole number for each code.
-use Rattle.std.specs.Prelude.{ℕ, Bool, true, false, cond, ◌==◌}
+use Rattle.std.specs.Prelude.{ℕ, Bool, true, false, ◌==◌, Ok, Err, Result}
 use Rattle.std.proofs.Math.Option.{Option, none, some}
-use Rattle.labels.specs.declared.sameness.Sameness.{Sameness}
-use Rattle.labels.specs.declared.sameness.Sameness.TheVariants.{Same, Different, NoValue}
+use Rattle.labels.specs.declared.no_value.NoValue.{NoValue}
 
 -- a value is there
 abbrev pub has_value : Option ℕ → Bool
@@ -13,16 +12,25 @@ has_value (some x) = true
 abbrev pub known_by : (ℕ → Option ℕ) → ℕ → Bool
 known_by K code = has_value (K code)
 
--- the answer for two codes with the values x and y: yes exactly when these are equal
-abbrev pub compared : ℕ → ℕ → Sameness
-compared x y = cond (x == y) Same Different
+-- the fault: this code has no value
+abbrev pub unknown : ℕ → NoValue
+unknown code = record { 0 = code }
 
--- the answer for codes a and b with these values or none: the first code without one is the fault
-abbrev pub sameness : ℕ → ℕ → Option ℕ → Option ℕ → Sameness
-sameness a b none y = NoValue a
-sameness a b (some x) none = NoValue b
-sameness a b (some x) (some y) = compared x y
+-- the value of a code, or the fault that it has none
+abbrev pub valued : ℕ → Option ℕ → Result ℕ NoValue
+valued code none = Err (unknown code)
+valued code (some x) = Ok x
+
+abbrev pub valued_by : (ℕ → Option ℕ) → ℕ → Result ℕ NoValue
+valued_by K code = valued code (K code)
+
+-- the answer for codes a and b with these values or none: the first code without one is the fault, and else
+-- yes exactly when the values are equal
+abbrev pub sameness : ℕ → ℕ → Option ℕ → Option ℕ → Result Bool NoValue
+sameness a b none y = Err (unknown a)
+sameness a b (some x) none = Err (unknown b)
+sameness a b (some x) (some y) = Ok (x == y)
 
 -- "same"
-abbrev pub sameness_by : (ℕ → Option ℕ) → ℕ → ℕ → Sameness
+abbrev pub sameness_by : (ℕ → Option ℕ) → ℕ → ℕ → Result Bool NoValue
 sameness_by K a b = sameness a b (K a) (K b)

@@ -4,11 +4,10 @@
 pub mod among;
 pub mod kind;
 pub mod letters;
+pub mod no_value;
 pub mod numbers;
 pub mod pair;
 pub mod renames;
-pub mod sameness;
-pub mod standing;
 pub mod tags;
 #[cfg(test)]
 mod tests;

@@ -1,6 +1,5 @@
-ghost use Rattle.std.specs.Prelude.{◌≤◌};
-
 use super::pair::Pair;
+use arrayvec::ArrayVec;
 
 pub mod work;
 
@@ -8,7 +7,5 @@ pub mod work;
 #[derive(Drop)]
 pub struct Renames<K> {
     below: K,
-    pairs: [Pair; 16],
-    count: usize,
-    ghost few: { count ≤ 16 },
+    pairs: ArrayVec<Pair, 16>,
 }

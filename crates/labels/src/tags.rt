@@ -1,10 +1,10 @@
 ghost use Rattle.std.specs.Prelude.{◌≡◌, ℕ};
 ghost use Rattle.std.proofs.Math.Option.{Option};
-ghost use Rattle.labels.specs.Kinds.{known_by, sameness_by};
-ghost use Rattle.labels.specs.Tags.{tag_character, raised, is_tag, raised_code, tag_value};
+ghost use Rattle.labels.specs.Kinds.{known_by, valued_by, sameness_by};
+ghost use Rattle.labels.specs.Tags.{tag_character, is_tag, raised_code, tag_value};
 
-use super::kind::{Kind, compare};
-use super::sameness::Sameness;
+use super::kind::Kind;
+use super::no_value::NoValue;
 
 // Tags: codes of four characters, of which the small letters count as capitals.
 #[derive(Clone, Copy)]
@@ -14,17 +14,7 @@ pub struct Tags;
 fn is_tag_character(byte: u8) -> bool
     ensures { result ≡ tag_character byte }
 {
-    matches!(byte, b'A'..=b'Z' | b'a'..=b'z' | b'0'..=b'9' | b'-')
-}
-
-// A small letter as its capital.
-fn raise(byte: u8) -> u8
-    ensures { result ≡ raised byte }
-{
-    match byte {
-        b'a'..=b'z' => byte - 32,
-        _ => byte,
-    }
+    byte.is_ascii_alphanumeric() || byte == b'-'
 }
 
 // Whether the four bytes of a code are characters of a tag.
@@ -39,32 +29,34 @@ fn is_tag(code: u32) -> bool
 fn raise_code(code: u32) -> u32
     ensures { result ≡ raised_code code }
 {
-    let [a, b, c, d] = code.to_be_bytes();
-    records::code_of(raise(a), raise(b), raise(c), raise(d))
+    let mut bytes = code.to_be_bytes();
+    bytes.make_ascii_uppercase();
+    u32::from_be_bytes(bytes)
+}
+
+// The value of a code: the code of its characters as capitals.
+fn value(code: u32) -> Result<u32, NoValue>
+    ensures { result ≡ valued_by tag_value code }
+{
+    if is_tag(code) {
+        Ok(raise_code(code))
+    } else {
+        Err(NoValue(code))
+    }
 }
 
 impl Kind for Tags {
     const LETTER: u8 = b'T';
 
-    ghost letter = { 84 };
+    ghost LETTER = { 84 };
 
     ghost meaning = { λ _. tag_value };
 
-    fn letter_byte(&self) -> u8 {
-        Self::LETTER
-    }
-
     fn known(&self, code: u32) -> bool {
-        is_tag(code)
+        value(code).is_ok()
     }
 
-    fn same(&self, a: u32, b: u32) -> Sameness {
-        if !is_tag(a) {
-            Sameness::NoValue(a)
-        } else if !is_tag(b) {
-            Sameness::NoValue(b)
-        } else {
-            compare(raise_code(a), raise_code(b))
-        }
+    fn same(&self, a: u32, b: u32) -> Result<bool, NoValue> {
+        Ok(value(a)? == value(b)?)
     }
 }

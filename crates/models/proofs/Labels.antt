@@ -1,44 +1,28 @@
--- The test of two labels by the kind's answer (`same_told`), where both names are labelled (`same_there`) and
--- where not (`not_there`).
-use Rattle.std.proofs.Common.{◌≡◌, ℕ, zero, suc, ◌<◌, ◌≤◌, Bool, true, false, cond, eqb, ◌⊎◌, List, [], ◌∷◌, length, get_or, refl, ap, ◌∙◌, inl, inr, arith}
-use mathlib.Core.Option.{Option, none, some}
+-- Lawfulness as the code tests it: an element by either kind of option (`answered_there`), all numbers below one
+-- and the first that fails, from what the library says of a search over them (`each_told`, `first_told`).
+use Rattle.std.proofs.Common.{◌≡◌, ℕ, zero, suc, ◌<◌, Bool, true, false, List, [], ◌∷◌, Some, None, ◌↔◌, MatchOption, refl, sym}
+use Rattle.std.specs.List.{slice_get}
 use lib.ListN.{get_elem?}
-use Rattle.labels.specs.Kinds.{sameness}
-use Rattle.labels.specs.Among.{is_same}
-use Rattle.labels.specs.declared.sameness.Sameness.TheVariants.{Same, Different}
-use Rattle.calls.specs.Models.{value_of, same_value, same_label}
-use Rattle.calls.proofs.Lookups.{there_at}
-use Rattle.models.specs.Lawfulness.{labelled_by}
+use Rattle.calls.specs.Models.{each_below, first_bad}
+use Rattle.calls.proofs.Below.{Least, each_exact, all_good, first_bad_found}
+use Rattle.models.specs.Lawfulness.{answered}
 
--- the kind's answer, by the values of the two codes
-told : (b : Bool) → b ≡ is_same (cond b Same Different)
-told true = refl
-told false = refl
+pub answered_there : (l : List ℕ) (i : ℕ) → answered (slice_get l i) ≡ get_elem? l i
+answered_there [] i = refl
+answered_there (x ∷ l) zero = refl
+answered_there (x ∷ l) (suc i) = answered_there l i
 
-pub same_told : (x y : Option ℕ) (a b : ℕ) → same_value x y ≡ is_same (sameness a b x y)
-same_told none y a b = refl
-same_told (some x) none a b = refl
-same_told (some x) (some y) a b = told (eqb x y)
+one_flag : (a b : Bool) → (a ≡ true) ↔ (b ≡ true) → a ≡ b
+one_flag true b h = sym (h.0 refl)
+one_flag false true h = h.1 refl
+one_flag false false h = refl
 
-past : (l : List ℕ) (i : ℕ) → length l ≤ i → get_elem? l i ≡ none
-past [] i h = refl
-past (x ∷ l) zero h = absurd (omega arith)
-past (x ∷ l) (suc i) h = past l i (omega arith)
+module _ (f : ℕ → Bool) (n : ℕ) where
+  pub each_told : (b : Bool) → (b ≡ true) ↔ ((k : ℕ) → k < n → f k ≡ true) → b ≡ each_below f n
+  each_told b h =
+      let e = each_exact f n in
+      one_flag b (each_below f n) (λ t. e.1 (h.0 t), λ t. h.1 (e.0 t))
 
-no_value : (x : Option ℕ) → same_value x none ≡ false
-no_value none = refl
-no_value (some x) = refl
-
-module _ (K : ℕ → Option ℕ) (codes : List ℕ) (d e : ℕ) where
-  pub same_there : d < length codes → e < length codes →
-      same_label K (labelled_by codes) d e ≡ same_value (K (get_or codes d 0)) (K (get_or codes e 0))
-  same_there h k =
-      let p = there_at codes d 0 h in
-      let q = there_at codes e 0 k in
-      λ i. same_value (value_of K (p i)) (value_of K (q i))
-
-  pub not_there : (length codes ≤ d) ⊎ (length codes ≤ e) → same_label K (labelled_by codes) d e ≡ false
-  not_there (inl h) = ap (λ o. same_value (value_of K o) (value_of K (get_elem? codes e))) (past codes d h)
-  not_there (inr h) =
-      ap (λ o. same_value (value_of K (get_elem? codes d)) (value_of K o)) (past codes e h)
-      ∙ no_value (value_of K (get_elem? codes d))
+  pub first_told : (o : _) → MatchOption o ((k : ℕ) → k < n → f k ≡ true) (Least f n) → first_bad f n ≡ answered o
+  first_told None h = all_good f n h
+  first_told (Some e) h = first_bad_found f n e h

@@ -1,93 +1,98 @@
 // Whether representatives are lawful, and the first name whose representative is not.
 ghost use Rattle.std.specs.Prelude.{◌≡◌};
+ghost use Rattle.std.proofs.Math.ListN.{get_elem?};
 ghost use Rattle.meaning.specs.Model.{rep};
 ghost use Rattle.calls.specs.Models.{same_value, same_label, none_lower, label_lawful};
 ghost use Rattle.calls.specs.Models.{name_lawful, first_bad};
-ghost use Rattle.labels.specs.Among.{is_same};
 ghost use Rattle.models.specs.Lawfulness.{labelled_by, taken_by, answered};
 
+use labels::among::are_same;
 use labels::kind::Kind;
-use labels::sameness::Sameness;
 
 // The representative of name e; 0 if it has none.
 pub(crate) fn representative(representatives: &[u8], e: u8) -> u8
     ensures { result ≡ rep representatives.now e }
 {
-    if (e as usize) < representatives.len() {
-        representatives[e as usize]
-    } else {
-        0
+    representatives.get(usize::from(e)).copied().unwrap_or(0)
+}
+
+// What lawfulness is judged by: the kind, the codes of the labelled names, and each name's representative.
+#[derive(Drop)]
+struct Bearers<'a, K> {
+    kind: &'a K,
+    labels: &'a [u32],
+    representatives: &'a [u8],
+}
+
+impl<K: Kind> Bearers<'_, K> {
+    // The representative of name e; 0 if it has none.
+    fn representative(&self, e: u8) -> u8
+        ensures { result ≡ rep self.now.representatives.now e }
+    {
+        representative(self.representatives, e)
     }
-}
 
-// Whether the answer is that both codes are one label.
-fn says_same(answer: Sameness) -> bool
-    ensures { result ≡ is_same answer }
-{
-    matches!(answer, Sameness::Same)
-}
-
-// Whether two codes have the same value.
-fn same_codes<K: Kind>(kind: &K, x: u32, y: u32) -> bool
-    ensures { result ≡ same_value (K.Kind.meaning kind.now x)
-        (K.Kind.meaning kind.now y) }
-{
-    says_same(kind.same(x, y))
-}
-
-// Whether names d and e bear the same label.
-fn same_label<K: Kind>(kind: &K, labels: &[u32], d: u8, e: u8) -> bool
-    ensures { result ≡ same_label (K.Kind.meaning kind.now)
-        (labelled_by labels.now) d e }
-{
-    if (d as usize) < labels.len() && (e as usize) < labels.len() {
-        same_codes(kind, labels[d as usize], labels[e as usize])
-    } else {
-        false
+    // Whether two codes have the same value.
+    fn same_codes(&self, x: u32, y: u32) -> bool
+        ensures { result ≡ same_value (K.meaning self.now.kind.now x) (K.meaning self.now.kind.now y) }
+    {
+        are_same(self.kind, x, y)
     }
-}
 
-// Whether name d represents itself and bears the label of e.
-fn takes<K: Kind>(kind: &K, labels: &[u32], representatives: &[u8], d: u8, e: u8) -> bool
-    ensures { result ≡ taken_by (K.Kind.meaning kind.now) labels.now
-        representatives.now d e }
-{
-    representative(representatives, d) == d && same_label(kind, labels, d, e)
-}
+    // The code of the label that name e bears, if it bears one.
+    fn label(&self, e: u8) -> Option<u32>
+        ensures { answered result ≡ get_elem? self.now.labels.now e }
+    {
+        self.labels.get(usize::from(e)).copied()
+    }
 
-// Whether no name below e that represents itself bears the label of e.
-fn none_lower<K: Kind>(kind: &K, labels: &[u32], representatives: &[u8], e: u8) -> bool
-    ensures { result ≡ none_lower (K.Kind.meaning kind.now) (labelled_by labels.now)
-        representatives.now e e }
-{
-    for d in 0..e {
-        if takes(kind, labels, representatives, d, e) {
-            return false;
+    // Whether names d and e bear the same label.
+    fn same_label(&self, d: u8, e: u8) -> bool
+        ensures { result ≡ same_label (K.meaning self.now.kind.now) (labelled_by self.now.labels.now) d e }
+    {
+        match (self.label(d), self.label(e)) {
+            (Some(x), Some(y)) => self.same_codes(x, y),
+            _ => false,
         }
     }
-    true
-}
 
-// Whether a labelled name has the label of its representative, and where it represents itself, no lower such
-// name has it.
-fn label_lawful<K: Kind>(kind: &K, labels: &[u32], representatives: &[u8], e: u8) -> bool
-    ensures { result ≡ label_lawful (K.Kind.meaning kind.now)
-        (labelled_by labels.now) representatives.now e }
-{
-    let r = representative(representatives, e);
-    same_label(kind, labels, e, r) && (r != e || none_lower(kind, labels, representatives, e))
-}
+    // Whether name d represents itself and bears the label of e.
+    fn takes(&self, d: u8, e: u8) -> bool
+        ensures { result ≡ taken_by (K.meaning self.now.kind.now) self.now.labels.now
+            self.now.representatives.now d e }
+    {
+        self.representative(d) == d && self.same_label(d, e)
+    }
 
-// Whether the representative of name e is lawful: no higher than e, its own representative, and for a
-// labelled name as the labels ask.
-fn name_lawful<K: Kind>(kind: &K, labels: &[u32], representatives: &[u8], e: u8) -> bool
-    ensures { result ≡ name_lawful (K.Kind.meaning kind.now) (labelled_by labels.now)
-        representatives.now e }
-{
-    let r = representative(representatives, e);
-    r <= e
-        && representative(representatives, r) == r
-        && (labels.len() <= e as usize || label_lawful(kind, labels, representatives, e))
+    // Whether no name below e that represents itself bears the label of e.
+    fn none_lower(&self, e: u8) -> bool
+        ensures { result ≡ none_lower (K.meaning self.now.kind.now) (labelled_by self.now.labels.now)
+            self.now.representatives.now e e }
+    {
+        !(0..e).any(|d| self.takes(d, e))
+    }
+
+    // Whether a labelled name has the label of its representative, and where it represents itself, no lower
+    // such name has it.
+    fn label_lawful(&self, e: u8) -> bool
+        ensures { result ≡ label_lawful (K.meaning self.now.kind.now) (labelled_by self.now.labels.now)
+            self.now.representatives.now e }
+    {
+        let r = self.representative(e);
+        self.same_label(e, r) && (r != e || self.none_lower(e))
+    }
+
+    // Whether the representative of name e is lawful: no higher than e, its own representative, and for a
+    // labelled name as the labels ask.
+    fn name_lawful(&self, e: u8) -> bool
+        ensures { result ≡ name_lawful (K.meaning self.now.kind.now) (labelled_by self.now.labels.now)
+            self.now.representatives.now e }
+    {
+        let r = self.representative(e);
+        r <= e
+            && self.representative(r) == r
+            && (self.labels.len() <= usize::from(e) || self.label_lawful(e))
+    }
 }
 
 // The first name below `names` whose representative is not lawful.
@@ -100,10 +105,10 @@ pub(crate) fn first_unlawful<K: Kind>(
     ensures { first_bad (name_lawful (K.Kind.meaning kind.now)
         (labelled_by labels.now) representatives.now) names ≡ answered result }
 {
-    for e in 0..names {
-        if !name_lawful(kind, labels, representatives, e) {
-            return Some(e);
-        }
-    }
-    None
+    let bearers = Bearers {
+        kind,
+        labels,
+        representatives,
+    };
+    (0..names).find(|e| !bearers.name_lawful(*e))
 }

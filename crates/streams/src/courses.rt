@@ -112,7 +112,7 @@ fn fill<K: Kind>(
 // The whole course: the settled trial, or the first refusal.
 pub(crate) fn run<K: Kind>(kind: &K, stores: &mut Stores, stream: &[u8]) -> Result<Settled, Stop>
     requires { Enough (held stores.old) }
-    ensures course { course K.Kind.letter (K.Kind.meaning kind.now)
+    ensures course { course K.LETTER (K.Kind.meaning kind.now)
         (held stores.old) stream.now ≡ ended result (held stores.new) }
     ensures same { Same stores.old stores.new }
 {

@@ -5,7 +5,6 @@ ghost use Rattle.rules.specs.Looked.{looked, row_at, label_at, compared, labels_
 ghost use Rattle.calls.specs.RuleSteps.{or_none};
 
 use labels::kind::Kind;
-use labels::sameness::Sameness;
 use records::rows::{Fact, TermRow};
 use records::rule::Rule;
 use stores::trail::entry;
@@ -41,17 +40,9 @@ fn compare<K: Kind>(kind: &K, labels: &[u32], count: u8, x: u8, y: u8) -> Option
         (label_at (K.Kind.meaning kind.now) (take count labels.now) x)
         (label_at (K.Kind.meaning kind.now) (take count labels.now) y) }
 {
-    let Some(first) = entry(labels, count as usize, x as usize) else {
-        return None;
-    };
-    let Some(second) = entry(labels, count as usize, y as usize) else {
-        return None;
-    };
-    match kind.same(first, second) {
-        Sameness::Same => Some(true),
-        Sameness::Different => Some(false),
-        Sameness::NoValue(_) => None,
-    }
+    let first = entry(labels, count as usize, x as usize)?;
+    let second = entry(labels, count as usize, y as usize)?;
+    kind.same(first, second).ok()
 }
 
 // The labels in question: those of a fact's two names, or those of the names t and w.

@@ -1,37 +1,14 @@
-ghost use Rattle.std.specs.Prelude.{◌≡◌, ℕ, []};
+ghost use Rattle.std.specs.Prelude.{◌≡◌, ◌==◌, ℕ, [], find};
 ghost use Rattle.std.proofs.Math.Option.{Option};
 ghost use Rattle.labels.specs.Kinds.{known_by, sameness_by};
 ghost use Rattle.labels.specs.Renames.{target, held_old, held_pairs, kind_below, rename_answer, rename_pairs};
 
 use super::Renames;
 use crate::kind::Kind;
+use crate::no_value::NoValue;
 use crate::pair::Pair;
-use crate::sameness::Sameness;
+use arrayvec::ArrayVec;
 use records::refusal::Refusal;
-
-// What the pairs make of a code: the new code of the pair that has it as its old one, or the code itself.
-fn target_of(pairs: &[Pair], code: u32) -> u32
-    ensures { result ≡ target pairs.entry.now code }
-{
-    for i in 0..pairs.len() {
-        if pairs[i].old == code {
-            return pairs[i].new;
-        }
-    }
-    code
-}
-
-// Whether a pair has this old code.
-fn holds_old(pairs: &[Pair], code: u32) -> bool
-    ensures { result ≡ held_old pairs.entry.now code }
-{
-    for i in 0..pairs.len() {
-        if pairs[i].old == code {
-            return true;
-        }
-    }
-    false
-}
 
 impl<K> Renames<K> {
     // A layer without pairs: every code means what it means below.
@@ -41,22 +18,32 @@ impl<K> Renames<K> {
     {
         Renames {
             below,
-            pairs: [Pair { old: 0, new: 0 }; 16],
-            count: 0,
+            pairs: ArrayVec::new(),
         }
     }
 
-    // The pairs that are held.
-    fn held(&self) -> &[Pair]
-        ensures { result.now ≡ held_pairs self.now }
+    // The pair that has this old code.
+    fn find_old(&self, code: u32) -> Option<Pair>
+        ensures { result ≡ find (λ p. p.old == code) (held_pairs self.now) }
     {
-        &self.pairs[0..self.count]
+        self.pairs.iter().copied().find(|pair| pair.old == code)
     }
 
+    // What the pairs make of a code: the new code of the pair that has it as its old one, or the code itself.
     fn target(&self, code: u32) -> u32
         ensures { result ≡ target (held_pairs self.now) code }
     {
-        target_of(self.held(), code)
+        match self.find_old(code) {
+            Some(pair) => pair.new,
+            None => code,
+        }
+    }
+
+    // Whether a pair has this old code.
+    fn holds_old(&self, code: u32) -> bool
+        ensures { result ≡ held_old (held_pairs self.now) code }
+    {
+        self.pairs.iter().any(|pair| pair.old == code)
     }
 
     // One pair more: refused where 16 are held, and then where the old code has a pair already.
@@ -65,14 +52,13 @@ impl<K> Renames<K> {
         ensures pairs { held_pairs self.new ≡ rename_pairs (held_pairs self.old) old new }
         ensures below { kind_below self.new ≡ kind_below self.old }
     {
-        if self.held().len() >= 16 {
+        if self.pairs.is_full() {
             return Err(Refusal::PairsFull);
         }
-        if holds_old(self.held(), old) {
+        if self.holds_old(old) {
             return Err(Refusal::OldHeld(old));
         }
-        self.pairs[self.count] = Pair { old, new };
-        self.count += 1;
+        self.pairs.push(Pair { old, new });
         Ok(())
     }
 }
@@ -80,27 +66,20 @@ impl<K> Renames<K> {
 impl<K: Kind> Kind for Renames<K> {
     const LETTER: u8 = K::LETTER;
 
-    ghost letter = { K.Kind.letter };
+    ghost LETTER = { K.Kind.LETTER };
 
     ghost meaning = { λ layer code. K.Kind.meaning (kind_below layer) (target (held_pairs layer) code) };
-
-    fn letter_byte(&self) -> u8 {
-        self.below.letter_byte()
-    }
 
     fn known(&self, code: u32) -> bool {
         self.below.known(self.target(code))
     }
 
-    fn same(&self, a: u32, b: u32) -> Sameness {
+    fn same(&self, a: u32, b: u32) -> Result<bool, NoValue> {
         let x = self.target(a);
         let y = self.target(b);
         if !self.below.known(x) {
-            return Sameness::NoValue(a);
+            return Err(NoValue(a));
         }
-        match self.below.same(x, y) {
-            Sameness::NoValue(_) => Sameness::NoValue(b),
-            answer => answer,
-        }
+        self.below.same(x, y).map_err(|_| NoValue(b))
     }
 }

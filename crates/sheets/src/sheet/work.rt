@@ -24,7 +24,7 @@ impl Sheet {
     // only the lengths count, and nothing is written.
     pub fn make<K: Kind>(kind: &K, stores: &Stores, bytes: &[u8]) -> Result<Sheet, Refusal>
         ensures { made result
-            ≡ make_of K.Kind.letter (held stores.now) bytes.now }
+            ≡ make_of K.LETTER (held stores.now) bytes.now }
     {
         if !large_enough(stores) {
             return Err(Refusal::StoresShort);
@@ -32,7 +32,7 @@ impl Sheet {
         let Some(header) = read_header(bytes) else {
             return Err(Refusal::NotHeader);
         };
-        if header.letter != kind.letter_byte() {
+        if header.letter != K::LETTER {
             return Err(Refusal::WrongLetter(header.letter));
         }
         Sheet::of_header(header)

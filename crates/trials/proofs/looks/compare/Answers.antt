@@ -1,28 +1,19 @@
-use Rattle.std.proofs.Common.{take}
-use Rattle.trials.proofs.Lookups.{left_gone, right_gone, same_labels, other_labels, lost_labels}
+use Rattle.std.proofs.Common.{take, ap, ◌∙◌}
+use Rattle.std.specs.Result.{result_ok}
+use Rattle.trials.proofs.Lookups.{left_gone, right_gone, labels_told}
 use Rattle.trials.proofs.looks.compare.Goals as goal
 
-pub returns-in_default : goal.returns-in_default
-returns-in_default g c =
-    left_gone _ (take c.args.count c.args.labels.now) c.args.x c.args.y
-    c.in_default.ensures
+pub returns-in_err-first : goal.returns-in_err-first
+returns-in_err-first g c =
+    c.from_residual.ensures ∙
+    left_gone _ (take c.args.count c.args.labels.now) c.args.x c.args.y c.in_err-first.ensures
 
-pub returns-in_default-entry : goal.returns-in_default-entry
-returns-in_default-entry g c =
-    right_gone _ (take c.args.count c.args.labels.now) c.args.x c.args.y
-    c.in_default-entry.ensures
+pub returns-in_err-second : goal.returns-in_err-second
+returns-in_err-second g c =
+    c.from_residual-in_err-second.ensures ∙
+    right_gone _ (take c.args.count c.args.labels.now) c.args.x c.args.y c.in_err-second.ensures
 
-pub returns-in-Same : goal.returns-in-Same
-returns-in-Same g c =
-    same_labels _ (take c.args.count c.args.labels.now) c.args.x c.args.y _ _
-    c.in-Some.ensures c.in-Some-entry.ensures c.in-Same.ensures
-
-pub returns-in-Different : goal.returns-in-Different
-returns-in-Different g c =
-    other_labels _ (take c.args.count c.args.labels.now) c.args.x c.args.y _ _
-    c.in-Some.ensures c.in-Some-entry.ensures c.in-Different.ensures
-
-pub returns-in-NoValue : goal.returns-in-NoValue
-returns-in-NoValue g c =
-    lost_labels _ (take c.args.count c.args.labels.now) c.args.x c.args.y _ _ _
-    c.in-Some.ensures c.in-Some-entry.ensures c.in-NoValue.ensures
+pub returns : goal.returns
+returns g c =
+    c.ok.ensures.value ∙ ap result_ok c.same.ensures ∙
+    labels_told _ (take c.args.count c.args.labels.now) c.args.x c.args.y _ _ c.in_ok-first.ensures c.in_ok-second.ensures

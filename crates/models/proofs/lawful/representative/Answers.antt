@@ -1,6 +1,0 @@
-use Rattle.std.proofs.Common.{sym, arith}
-use Rattle.std.proofs.lemmas.List.{get_or_past}
-use Rattle.models.proofs.lawful.representative.Goals as goal
-
-pub returns-else-e-representatives : goal.returns-else-e-representatives
-returns-else-e-representatives c = sym (get_or_past c.args.representatives.now c.args.e 0 (omega arith))
