@@ -8,7 +8,7 @@ use Rattle.calls.proofs.Flags.{and_split, and_join}
 
 -- nothing is not something
 pub no_clash : {X Y : Type 0} {x : X} → some x ≡ none → Y
-no_clash e = absurd (let z : ◌≡◌ {A = ℕ} 0 1 = cc in omega arith)
+no_clash e = absurd cc
 
 -- e is the first number below n that fails the test
 abbrev pub Least : (ℕ → Bool) → ℕ → ℕ → Type 0

@@ -198,7 +198,7 @@ module _ (K : ℕ → Option ℕ) (P : Plain) (good : Good P) where
     applies x y h = by_rule (rule_of x.rule) refl h
       where
         wrong : (e : Refusal) → ◌≡◌ {A = Result Plan Refusal} (Err e) (Ok y) → SomeApply x
-        wrong e h = absurd (let z : ◌≡◌ {A = ℕ} 0 1 = cc in omega arith)
+        wrong e h = absurd cc
 
         by_met :
             (r : RuleName) (f g : FactRow) → rule_of x.rule ≡ Some r →

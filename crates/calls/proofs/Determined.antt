@@ -122,8 +122,8 @@ module _ (K : ℕ → Option ℕ) (t : Counts) (h : Held) (w : Whole t h) (bs : 
       (v : Verdict) → t.verdict ≡ v → verdict_by v t h ≡ subject.undecided →
       (state_by v t h ≡ state_of t h) × Live t h
   state_is verdict.Undecided e u = (refl, subst (λ (x : Verdict). LiveBy x t h) e w.live)
-  state_is verdict.Closed e u = absurd (let z : ◌≡◌ {A = ℕ} 0 1 = cc in omega arith)
-  state_is verdict.Open e u = absurd (let z : ◌≡◌ {A = ℕ} 0 1 = cc in omega arith)
+  state_is verdict.Closed e u = absurd cc
+  state_is verdict.Open e u = absurd cc
 
   rules_one :
       (st st' : Stage) → RuleLed K (read_trial t h) bs st → RuleLed K (read_trial t h) bs st' → st ≡ st'

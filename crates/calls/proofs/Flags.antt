@@ -1,9 +1,9 @@
 -- Tests joined by &&, || and not: what it says that they come out true.
-use Rattle.std.proofs.Common.{◌≡◌, ℕ, Bool, true, false, not, ◌&&◌, ◌||◌, refl, arith}
+use Rattle.std.proofs.Common.{◌≡◌, Bool, true, false, not, ◌&&◌, ◌||◌, refl}
 
 -- false is not true
 pub clash : {X : Type 0} → false ≡ true → X
-clash e = absurd (let z : ◌≡◌ {A = ℕ} 0 1 = cc in omega arith)
+clash e = absurd cc
 
 pub and_split : (a b : Bool) → (a && b) ≡ true → (a ≡ true) × (b ≡ true)
 and_split true b e = (refl, e)

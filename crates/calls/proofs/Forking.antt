@@ -18,7 +18,7 @@ use Rattle.calls.proofs.Truth.{clash}
 
 -- a refusal is no plan
 pub refused_not : {X Y : Type 0} (e : Refusal) (y : Y) → ◌≡◌ {A = Result Y Refusal} (Err e) (Ok y) → X
-refused_not e y h = absurd (let z : ◌≡◌ {A = ℕ} 0 1 = cc in omega arith)
+refused_not e y h = absurd cc
 
 pub ok_same : {Y : Type 0} (x y : Y) → ◌≡◌ {A = Result Y Refusal} (Ok x) (Ok y) → x ≡ y
 ok_same x y h = cc

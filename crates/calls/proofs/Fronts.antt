@@ -30,7 +30,7 @@ nth_cut xs ys m i l e = sym (nth_front xs m i l) ∙ ap (λ (z : List _). slice_
 
 -- an entry that is there is below the length
 pub nth_low : {X : Type 0} (xs : List X) (i : ℕ) (x : X) → slice_get xs i ≡ Some x → i < length xs
-nth_low [] i x e = absurd (let z : ◌≡◌ {A = ℕ} 0 1 = cc in omega arith)
+nth_low [] i x e = absurd cc
 nth_low (y ∷ xs) zero x e = omega arith
 nth_low (y ∷ xs) (suc i) x e = let h = nth_low xs i x e in omega arith
 
@@ -38,9 +38,9 @@ nth_low (y ∷ xs) (suc i) x e = let h = nth_low xs i x e in omega arith
 pub last_split :
     {X : Type 0} (xs : List X) (k : ℕ) (x : X) → k ≤ length xs → slice_get (take k xs) (k - 1) ≡ Some x →
     take k xs ≡ take (k - 1) xs ++ (x ∷ [])
-last_split [] zero x h e = absurd (let z : ◌≡◌ {A = ℕ} 0 1 = cc in omega arith)
+last_split [] zero x h e = absurd cc
 last_split [] (suc k) x h e = absurd (omega arith)
-last_split (y ∷ xs) zero x h e = absurd (let z : ◌≡◌ {A = ℕ} 0 1 = cc in omega arith)
+last_split (y ∷ xs) zero x h e = absurd cc
 last_split (y ∷ xs) (suc zero) x h e = let q : y ≡ x = cc in ap (λ (z : _). z ∷ []) q
 last_split (y ∷ xs) (suc (suc k)) x h e =
     let q : suc (suc k) - 1 ≡ suc k = omega arith in
@@ -57,7 +57,7 @@ pub no_last :
 no_last [] zero h e = refl
 no_last [] (suc k) h e = refl
 no_last (y ∷ xs) zero h e = refl
-no_last (y ∷ xs) (suc zero) h e = absurd (let z : ◌≡◌ {A = ℕ} 0 1 = cc in omega arith)
+no_last (y ∷ xs) (suc zero) h e = absurd cc
 no_last (y ∷ xs) (suc (suc k)) h e =
     let q : suc (suc k) - 1 ≡ suc k = omega arith in
     let q' : suc k - 1 ≡ k = omega arith in
@@ -68,8 +68,8 @@ no_last (y ∷ xs) (suc (suc k)) h e =
 
 -- a front that has a last has a place
 pub has_last : {X : Type 0} (k : ℕ) (xs : List X) (x : X) → slice_get (take k xs) (k - 1) ≡ Some x → 1 ≤ k
-has_last zero [] x e = absurd (let z : ◌≡◌ {A = ℕ} 0 1 = cc in omega arith)
-has_last zero (y ∷ xs) x e = absurd (let z : ◌≡◌ {A = ℕ} 0 1 = cc in omega arith)
+has_last zero [] x e = absurd cc
+has_last zero (y ∷ xs) x e = absurd cc
 has_last (suc k) xs x e = omega arith
 
 -- a list ends in one way

@@ -1,5 +1,5 @@
 -- Labels: compared as a rule asks exactly where both names bear values that are the same, or not the same.
-use Rattle.std.proofs.Common.{◌≡◌, ℕ, Bool, true, false, eqb, ◌≢◌, List, sym, refl, ap, ◌∙◌, ap₂, arith, ne_eqb, eqb-true}
+use Rattle.std.proofs.Common.{◌≡◌, ℕ, Bool, true, false, eqb, ◌≢◌, List, sym, refl, ap, ◌∙◌, ap₂, ne_eqb, eqb-true}
 use mathlib.Core.Option.{Option, none, some}
 use borrow.Author.Tests.{eqb-false}
 use lib.ListN.{get_elem?}
@@ -58,5 +58,5 @@ pub bears : (K : ℕ → Option ℕ) (S : Sheet) (e x : ℕ) → label_at K S.co
 bears K S e x h = go (get_elem? S.codes e) refl h
   where
     go : (o : Option ℕ) → get_elem? S.codes e ≡ o → coded K o ≡ some x → Bears K S e x
-    go none q h = absurd (let z : ◌≡◌ {A = ℕ} 0 1 = cc in omega arith)
+    go none q h = absurd cc
     go (some c) q h = (c, q, h)

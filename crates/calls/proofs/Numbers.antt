@@ -1,5 +1,5 @@
 -- A rule's number names it, and only it (`named`, `numbered`).
-use Rattle.std.proofs.Common.{◌≡◌, ℕ, Bool, true, false, cond, eqb, Some, Option as Maybe, sym, refl, ap, ◌∙◌, arith, eqb-true}
+use Rattle.std.proofs.Common.{◌≡◌, ℕ, Bool, true, false, cond, eqb, Some, Option as Maybe, sym, refl, ap, ◌∙◌, eqb-true}
 use Rattle.records.specs.declared.rule.Rule.{Rule as RuleName}
 use Rattle.records.specs.declared.rule.Rule.TheVariants as R
 use Rattle.records.specs.Kinds.{rule_number, rule_of}
@@ -70,4 +70,4 @@ numbered b r =
     pick b 23 R.SwapTerm r _ refl (
     pick b 24 R.LabelUnsat r _ refl (
     pick b 25 R.LabelSame r _ refl (
-    λ h. absurd (let z : ◌≡◌ {A = ℕ} 0 1 = cc in omega arith))))))))))))))))))))))))))
+    λ h. absurd cc)))))))))))))))))))))))))

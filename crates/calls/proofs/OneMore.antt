@@ -1,5 +1,5 @@
 -- Fronts of lists and of stores: what one more element leaves (`map_push`, `all_push`, `last_or_before`).
-use Rattle.std.proofs.Common.{◌≡◌, ℕ, zero, suc, ◌⊎◌, List, [], ◌∷◌, ◌++◌, map, length, take, refl, ap, inl, inr, arith}
+use Rattle.std.proofs.Common.{◌≡◌, ℕ, zero, suc, ◌⊎◌, List, [], ◌∷◌, ◌++◌, map, length, take, refl, ap, inl, inr}
 use mathlib.Core.Option.{some, some-injective}
 use lib.ListN.{get_elem?}
 use Rattle.std.specs.List.{AllByRecursion}
@@ -20,7 +20,7 @@ pub last_or_before :
     {X : Type 0} (l : List X) (x y : X) (i : ℕ) → get_elem? (l ++ (x ∷ [])) i ≡ some y →
     (get_elem? l i ≡ some y) ⊎ ((i ≡ length l) × (x ≡ y))
 last_or_before [] x y zero e = inr (refl, some-injective _ _ e)
-last_or_before [] x y (suc i) e = absurd (let z : ◌≡◌ {A = ℕ} 0 1 = cc in omega arith)
+last_or_before [] x y (suc i) e = absurd cc
 last_or_before (w ∷ l) x y zero e = inl e
 last_or_before (w ∷ l) x y (suc i) e = go (last_or_before l x y i e)
   where

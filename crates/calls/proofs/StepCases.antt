@@ -125,13 +125,13 @@ told (verdict_there d) = d
 
 -- the three readings of a step differ
 pub rule_not_other : {X : Type 0} (x : Step) → rule x ≡ other → X
-rule_not_other x e = absurd (let z : ◌≡◌ {A = ℕ} 0 1 = cc in omega arith)
+rule_not_other x e = absurd cc
 
 pub model_not_other : {X : Type 0} (n : ℕ) (rs : List ℕ) → model n rs ≡ other → X
-model_not_other n rs e = absurd (let z : ◌≡◌ {A = ℕ} 0 1 = cc in omega arith)
+model_not_other n rs e = absurd cc
 
 pub rule_not_model : {X : Type 0} (x : Step) (n : ℕ) (rs : List ℕ) → rule x ≡ model n rs → X
-rule_not_model x n rs e = absurd (let z : ◌≡◌ {A = ℕ} 0 1 = cc in omega arith)
+rule_not_model x n rs e = absurd cc
 
 pub rule_same : (x y : Step) → rule x ≡ rule y → x ≡ y
 rule_same x y e = cc

@@ -1,10 +1,10 @@
 -- Tests that hold: a list of tests is all true exactly where each of them is (`all_true`, `all_hold`).
-use Rattle.std.proofs.Common.{◌≡◌, ℕ, Bool, true, false, ◌&&◌, ◌||◌, eqb, ◌⊎◌, List, [], ◌∷◌, refl, ap, ap₂, inl, inr, arith, eq-eqb}
+use Rattle.std.proofs.Common.{◌≡◌, ℕ, Bool, true, false, ◌&&◌, ◌||◌, eqb, ◌⊎◌, List, [], ◌∷◌, refl, ap, ap₂, inl, inr, eq-eqb}
 use Rattle.std.specs.List.{AllByRecursion}
 use Rattle.rules.specs.Rules.{all_from, all_of}
 
 pub clash : {X : Type 0} → false ≡ true → X
-clash e = absurd (let z : ◌≡◌ {A = ℕ} 0 1 = cc in omega arith)
+clash e = absurd cc
 
 pub eqb_self : (x : ℕ) → eqb x x ≡ true
 eqb_self x = eq-eqb x x refl

@@ -20,7 +20,6 @@ use Rattle.records.specs.declared.verdict.Verdict.TheVariants as verdict
 use Rattle.records.specs.declared.rows.Header.{Header}
 use Rattle.records.specs.declared.rows.TermRow.{TermRow}
 use Rattle.records.specs.declared.rows.ConstraintRow.{ConstraintRow}
-use Rattle.records.specs.declared.rows.Fact.{Fact}
 use Rattle.records.specs.declared.record.RowRecord.TheVariants as row
 use Rattle.records.specs.Reading.{RowRead, fact_said, header_in, row_in}
 use Rattle.labels.specs.Kinds.{known_by}

@@ -57,7 +57,7 @@ unfolding trees pushed
 trees_at done [] j n e o k h s = absurd (none_some h)
   where
     none_some : {X : Type 0} {x : X} → none ≡ some x → ⊥
-    none_some h = let z : ◌≡◌ {A = ℕ} 0 1 = cc in omega arith
+    none_some h = cc
 trees_at done (r ∷ rs) zero n e o k h s =
     let en : n ≡ length done = omega arith in
     let x : Tm = node (length done) r.op (λ i. get_or done i Empty) in

@@ -9,13 +9,13 @@ use Rattle.meaning.proofs.RuleFits.{form_up}
 
 -- what is found in a list is found in a longer one, and what is found there was there before or is new
 pub found_more : {X : Type 0} (l m : List X) (i : ℕ) (x : X) → get_elem? l i ≡ some x → get_elem? (l ++ m) i ≡ some x
-found_more [] m i x h = absurd (let z : ◌≡◌ {A = ℕ} 0 1 = cc in omega arith)
+found_more [] m i x h = absurd cc
 found_more (y ∷ l) m zero x h = h
 found_more (y ∷ l) m (suc i) x h = found_more l m i x h
 
 pub found_last : {X : Type 0} (l : List X) (y : X) (i : ℕ) (x : X) → get_elem? (l ++ (y ∷ [])) i ≡ some x → (get_elem? l i ≡ some x) ⊎ ((i ≡ length l) × (y ≡ x))
 found_last [] y zero x h = inr (refl, some-injective _ _ h)
-found_last [] y (suc i) x h = absurd (let z : ◌≡◌ {A = ℕ} 0 1 = cc in omega arith)
+found_last [] y (suc i) x h = absurd cc
 found_last (z ∷ l) y zero x h = inl h
 found_last (z ∷ l) y (suc i) x h = ⊎_elim (λ p. inl p) (λ p. inr (ap suc p.0, p.1)) (found_last l y i x h)
 
@@ -57,7 +57,7 @@ module _ (rs ms : List Row) where
   form_more n (same s r) h = (h.0, arity_more s h.0 h.1, arity_more r h.0 h.2)
 
 pub full_fresh : (H : Header) → Full (fresh H).sheet
-full_fresh H = record { rows_fit = λ t o k h. absurd (let z : ◌≡◌ {A = ℕ} 0 1 = cc in omega arith); constraints_fit = tt }
+full_fresh H = record { rows_fit = λ t o k h. absurd cc; constraints_fit = tt }
 
 pub full_code : (S : Sheet) (c : ℕ) → Full S → Full (with_code S c)
 full_code S c f =

@@ -31,7 +31,7 @@ of_name_line (q ∷ rs) k e r m = ⊎_elim here (λ m'. later (of_name_line rs (
 
 no_tuple_there : (rs : List ℕ) (k t : ℕ) (us : List ℕ) → Mem (inside t us) (name_lines rs k) → ⊥
 no_tuple_there [] k t us m = Memᴰ.not-nil m
-no_tuple_there (r ∷ rs) k t us m = ⊎_elim (λ p. let z : ◌≡◌ {A = ℕ} 0 1 = cc in omega arith) (no_tuple_there rs (k + 1) t us) (Memᴰ.cases_cons m)
+no_tuple_there (r ∷ rs) k t us m = ⊎_elim (λ p. cc) (no_tuple_there rs (k + 1) t us) (Memᴰ.cases_cons m)
 
 module _ (S : Sheet) (rs : List ℕ) where
   abbrev holds_tuples : ℕ → Bool
@@ -42,7 +42,7 @@ module _ (S : Sheet) (rs : List ℕ) where
   no_name_in e r true (member u t) m = go (holds_tuples t) m
     where
       go : (b : Bool) → Mem (name e r) (cond b (inside t (map (rep rs) u) ∷ []) []) → ⊥
-      go true m' = let p = Memᴰ.eq_of_singleton m' in let z : ◌≡◌ {A = ℕ} 0 1 = cc in omega arith
+      go true m' = let p = Memᴰ.eq_of_singleton m' in cc
       go false m' = Memᴰ.not-nil m'
   no_name_in e r false (member u t) m = Memᴰ.not-nil m
   no_name_in e r true (equal a b) m = Memᴰ.not-nil m
@@ -130,7 +130,7 @@ module _ (S : Sheet) (rs : List ℕ) where
         Mem.tail (Memᴰ.append_left (in_lines S rs cs) (subst (λ (i : ℕ). Mem (name i (rep rs e)) (name_lines rs 0)) z (name_line rs 0 e l)))
 
     pub listed_name : (e r : ℕ) → Mem (name e r) lines → r ≡ rep rs e
-    listed_name e r m = ⊎_elim (λ p. absurd (let z : ◌≡◌ {A = ℕ} 0 1 = cc in omega arith)) (λ m'. ⊎_elim there (λ k. absurd (no_name_there e r cs k)) (Memᴰ.append_cases (name_lines rs 0) m')) (Memᴰ.cases_cons m)
+    listed_name e r m = ⊎_elim (λ p. absurd cc) (λ m'. ⊎_elim there (λ k. absurd (no_name_there e r cs k)) (Memᴰ.append_cases (name_lines rs 0) m')) (Memᴰ.cases_cons m)
       where
         there : Mem (name e r) (name_lines rs 0) → r ≡ rep rs e
         there k = let p = of_name_line rs 0 e r k in let q : e ≡ 0 + p.0 = p.1 in let x : p.0 ≡ e = omega arith in p.2 ∙ ap (rep rs) x
@@ -141,7 +141,7 @@ module _ (S : Sheet) (rs : List ℕ) where
         Mem.tail (Memᴰ.append_right (name_lines rs 0) (tuple_line t v cs h.0 h.1))
 
     pub listed_tuple : (t : ℕ) (us : List ℕ) → Mem (inside t us) lines → (v : List ℕ) × Mem v (held S cs t) × (us ≡ map (rep rs) v)
-    listed_tuple t us m = ⊎_elim (λ p. absurd (let z : ◌≡◌ {A = ℕ} 0 1 = cc in omega arith)) (λ m'. ⊎_elim (λ k. absurd (no_tuple_there rs 0 t us k)) there (Memᴰ.append_cases (name_lines rs 0) m')) (Memᴰ.cases_cons m)
+    listed_tuple t us m = ⊎_elim (λ p. absurd cc) (λ m'. ⊎_elim (λ k. absurd (no_tuple_there rs 0 t us k)) there (Memᴰ.append_cases (name_lines rs 0) m')) (Memᴰ.cases_cons m)
       where
         there : Mem (inside t us) (in_lines S rs cs) → (v : List ℕ) × Mem v (held S cs t) × (us ≡ map (rep rs) v)
         there k = let p = of_tuple_line t us cs k in (p.1.0, subst (λ (b : Bool). Mem p.1.0 (cond b (tuples cs t) [])) (sym p.0) p.1.1, p.1.2)

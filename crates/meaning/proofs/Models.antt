@@ -108,11 +108,11 @@ module _ (K : ℕ → Option ℕ) (S : Sheet) (n : ℕ) (rs : List ℕ) (lawful 
       go (yes lp) (no lq) =
           let a = lawful.label p lp in
           let f : labelled a.0 ≡ unlabelled q = sym (thing_label K S p a.0 a.1) ∙ e ∙ thing_free K S q (omega arith) in
-          absurd (let z : ◌≡◌ {A = ℕ} 0 1 = cc in omega arith)
+          absurd cc
       go (no lp) (yes lq) =
           let b = lawful.label q lq in
           let f : unlabelled p ≡ labelled b.0 = sym (thing_free K S p (omega arith)) ∙ e ∙ thing_label K S q b.0 b.1 in
-          absurd (let z : ◌≡◌ {A = ℕ} 0 1 = cc in omega arith)
+          absurd cc
       go (no lp) (no lq) =
           let f : unlabelled p ≡ unlabelled q = sym (thing_free K S p (omega arith)) ∙ e ∙ thing_free K S q (omega arith) in
           cc

@@ -1,5 +1,5 @@
 -- An injective map of the carrier carries the value of every term, `value_moved`, and the truth of every fact, `sat_moved`.
-use Rattle.std.proofs.Common.{◌≡◌, ℕ, Bool, true, false, ◌↔◌, List, [], ◌∷◌, ◌++◌, map, reverse, sym, refl, ap, ◌∙◌, subst, ap₂, inl, inr, ⊎_elim, arith}
+use Rattle.std.proofs.Common.{◌≡◌, ℕ, Bool, true, false, ◌↔◌, List, [], ◌∷◌, ◌++◌, map, reverse, sym, refl, ap, ◌∙◌, subst, ap₂, inl, inr, ⊎_elim}
 use mathlib.Core.List.Memᴰ
 use mathlib.Core.List.{map-map, reverse_aux, reverse-reverse, head-eq_of_cons-eq, tail-eq_of_cons-eq}
 use Rattle.std.proofs.lemmas.List.{map-append}
@@ -15,7 +15,7 @@ module _ {A B : Type 0} (f : A → B) where
   map_rev (x ∷ u) v = map_rev u (x ∷ v)
 
   no_cons : {x : B} {l : List B} → [] ≡ x ∷ l → ⊥
-  no_cons e = let z : ◌≡◌ {A = ℕ} 0 1 = cc in omega arith
+  no_cons e = cc
 
   -- how an image is cut
   pub cut_cons : (w : List A) (m : B) (b : List B) → m ∷ b ≡ map f w → (m' : A) × (b' : List A) × (w ≡ m' ∷ b') × (m ≡ f m') × (b ≡ map f b')

@@ -100,7 +100,7 @@ reads_back ls =
 
 only : (b : Bool) (ms ls : List Line) (bs : List ℕ) → same (text ms) bs ≡ b → cond b (some ms) none ≡ some ls → text ls ≡ bs
 only true ms ls bs e h = let m : ms ≡ ls = cc in ap text (sym m) ∙ same_true (text ms) bs e
-only false ms ls bs e h = let z : ◌≡◌ {A = ℕ} 0 1 = cc in absurd (omega arith)
+only false ms ls bs e h = cc
 
 pub reads_only : ReadsOnly
 reads_only bs ls h = only (same (text (guess bs)) bs) (guess bs) ls bs refl h

@@ -44,7 +44,7 @@ put_first : {A : Type 0} (e : ℕ → A) (n : ℕ) (m : A) (u : List A) → put 
 put_first e n m u = let z : n + 0 ≡ n = omega arith in ap (put e n (m ∷ u)) (sym z) ∙ put_new e n (m ∷ u) 0 m (omega arith)
 
 pub bound : {X : Type 0} (l : List X) (i : ℕ) (c : X) → get_elem? l i ≡ some c → i < length l
-bound [] i c h = absurd (let z : ◌≡◌ {A = ℕ} 0 1 = cc in omega arith)
+bound [] i c h = absurd cc
 bound (x ∷ l) zero c h = omega arith
 bound (x ∷ l) (suc i) c h = let q = bound l i c h in omega arith
 

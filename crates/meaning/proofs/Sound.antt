@@ -13,7 +13,7 @@ use Rattle.meaning.proofs.RuleFits.{Fits, form_up, rule_fits}
 
 -- what all facts of a branch have, each of them has, and so those that are cited
 pub all_at : {X : Type 0} (P : X → Type 0) (l : List X) (i : ℕ) (x : X) → AllByRecursion P l → get_elem? l i ≡ some x → P x
-all_at P [] i x h e = absurd (let z : ◌≡◌ {A = ℕ} 0 1 = cc in omega arith)
+all_at P [] i x h e = absurd cc
 all_at P (y ∷ l) zero x h e = subst P (some-injective _ _ e) h.0
 all_at P (y ∷ l) (suc i) x h e = all_at P l i x h.1 e
 
