@@ -35,22 +35,11 @@ use Rattle.calls.proofs.Rows.{row_of, arity_of, arity_low, full}
 equalities_are :
     (u v : List ℕ) → length u ≡ length v → 1 ≤ length u → length u ≤ 4 →
     equalities_of (length u) (names_of u) (names_of v) ≡ write_alt (record { fresh = 0; facts = equalities u v })
-equalities_are [] v e l h = absurd (omega arith)
-equalities_are (x ∷ []) [] e l h = absurd (omega arith)
 equalities_are (x ∷ []) (a ∷ v) e l h = refl
-equalities_are (x ∷ y ∷ []) [] e l h = absurd (omega arith)
-equalities_are (x ∷ y ∷ []) (a ∷ []) e l h = absurd (omega arith)
 equalities_are (x ∷ y ∷ []) (a ∷ b ∷ v) e l h = refl
-equalities_are (x ∷ y ∷ z ∷ []) [] e l h = absurd (omega arith)
-equalities_are (x ∷ y ∷ z ∷ []) (a ∷ []) e l h = absurd (omega arith)
-equalities_are (x ∷ y ∷ z ∷ []) (a ∷ b ∷ []) e l h = absurd (omega arith)
 equalities_are (x ∷ y ∷ z ∷ []) (a ∷ b ∷ c ∷ v) e l h = refl
-equalities_are (x ∷ y ∷ z ∷ o ∷ []) [] e l h = absurd (omega arith)
-equalities_are (x ∷ y ∷ z ∷ o ∷ []) (a ∷ []) e l h = absurd (omega arith)
-equalities_are (x ∷ y ∷ z ∷ o ∷ []) (a ∷ b ∷ []) e l h = absurd (omega arith)
-equalities_are (x ∷ y ∷ z ∷ o ∷ []) (a ∷ b ∷ c ∷ []) e l h = absurd (omega arith)
 equalities_are (x ∷ y ∷ z ∷ o ∷ []) (a ∷ b ∷ c ∷ d ∷ v) e l h = refl
-equalities_are (x ∷ y ∷ z ∷ o ∷ q ∷ u) v e l h = absurd (omega arith)
+equalities_are _ _ e l h = absurd (omega arith)
 
 -- an alternative of one member fact
 single_alt :
@@ -177,12 +166,9 @@ module _ (K : ℕ → Option ℕ) (P : Plain) (good : Good P) where
   complete {n} (eq_unsat_both {f = member u t}) b o h =
       pass R.EqUnsat n o refl refl _ _ 0 0 refl refl refl refl refl
       (negated o (facts_self true false (member u t))) refl
-  complete {n} (eq_unsat_both {f = equal x y}) b o h =
+  complete {n} (eq_unsat_both {f = f}) b o h =
       pass R.EqUnsat n o refl refl _ _ 0 0 refl refl refl refl refl
-      (negated o (facts_self true false (equal x y))) refl
-  complete {n} (eq_unsat_both {f = same x y}) b o h =
-      pass R.EqUnsat n o refl refl _ _ 0 0 refl refl refl refl refl
-      (negated o (facts_self true false (same x y))) refl
+      (negated o (facts_self true false f)) refl
   complete {n} (transp_up {u = u} {s = s} {t = t} is) b o h =
       let l = arity_low P good b.0.0 in
       let e = ap (λ (k : ℕ). reversed k (names_of u)) (arity_of P b.0.0) ∙ reversed_is u l.0 l.1 in

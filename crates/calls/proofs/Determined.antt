@@ -166,11 +166,7 @@ pub single : Single
 single K (sheet f h) (add bs) x y o g k =
     led_one f h o (row_in bs) x y (led K (read_draft f h) bs x g) (led K (read_draft f h) bs y k)
 single K (sheet f h) seal x y o g k = sealed_one K (read_draft f h) x g ∙ sym (sealed_one K (read_draft f h) y k)
-single K (sheet f h) (step bs) x y o g k = elim g [ ]
-single K (sheet f h) settle x y o g k = elim g [ ]
-single K (trial t h) (add bs) x y o g k = elim g [ ]
-single K (trial t h) seal x y o g k = elim g [ ]
 single K (trial t h) (step bs) x y o g k =
     steps_one K t h o bs x y (stepped K (read_trial t h) bs x g) (stepped K (read_trial t h) bs y k)
 single K (trial t h) settle x y o g k = settled_one K (read_trial t h) x g ∙ sym (settled_one K (read_trial t h) y k)
-single K (ended t h) c x y o g k = elim g [ ]
+single K _ _ x y o g k = elim g [ ]

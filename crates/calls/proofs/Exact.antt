@@ -43,15 +43,7 @@ places_hold n k u e h = (
 -- a row has the arity that it is written with
 arity_is : (k : ℕ) (o : Op) → (write_op k o).arity ≡ k
 arity_is k variable = refl
-arity_is k empty = refl
-arity_is k (single v) = refl
-arity_is k (union s r) = refl
-arity_is k (inter s r) = refl
-arity_is k (diff s r) = refl
-arity_is k (transp s) = refl
-arity_is k (prod s r) = refl
-arity_is k (join s r) = refl
-arity_is k (closure s) = refl
+arity_is k _ = refl
 
 low_holds : (k : ℕ) (o : Op) → 1 ≤ k → leb 1 (write_op k o).arity ≡ true
 low_holds k o h = le-leb 1 _ (subst (λ (x : ℕ). 1 ≤ x) (sym (arity_is k o)) h)

@@ -31,89 +31,26 @@ Again r =
     alternative_of r (cited_by K codes rows r x f g) n k ≡ alternative_of r (cited_again rows f x.t) n k
 
 pub again : (r : RuleName) → Again r
-again R.InterUp a b K codes rows x f g n k = clash (sym b)
-again R.InterDown a b K codes rows x f g n k = clash (sym b)
-again R.UnionUp a b K codes rows x f g n k = clash (sym b)
 again R.UnionDown a b K codes rows x f g n k = refl
 again R.DiffUp a b K codes rows x f g n k = refl
-again R.DiffDown a b K codes rows x f g n k = clash (sym b)
-again R.SingleUp a b K codes rows x f g n k = clash (sym b)
-again R.SingleDown a b K codes rows x f g n k = clash (sym b)
-again R.EmptyUnsat a b K codes rows x f g n k = clash (sym a)
 again R.SetDiseq a b K codes rows x f g n k = refl
-again R.EqUnsat a b K codes rows x f g n k = clash (sym a)
-again R.TranspUp a b K codes rows x f g n k = clash (sym b)
-again R.TranspDown a b K codes rows x f g n k = clash (sym b)
-again R.JoinUp a b K codes rows x f g n k = clash (sym b)
-again R.JoinDown a b K codes rows x f g n k = clash (sym b)
-again R.ProdUp a b K codes rows x f g n k = clash (sym b)
-again R.ProdDown a b K codes rows x f g n k = clash (sym b)
-again R.ClosUpOne a b K codes rows x f g n k = clash (sym b)
-again R.ClosUpTwo a b K codes rows x f g n k = clash (sym b)
 again R.ClosDown a b K codes rows x f g n k = refl
-again R.Sym a b K codes rows x f g n k = clash (sym b)
-again R.SwapName a b K codes rows x f g n k = clash (sym b)
-again R.SwapTerm a b K codes rows x f g n k = clash (sym b)
-again R.LabelUnsat a b K codes rows x f g n k = clash (sym a)
-again R.LabelSame a b K codes rows x f g n k = clash (sym b)
+again _ a b K codes rows x f g n k = absurd cc
 
 -- a rule that forks mentions p, and has at least two alternatives
 pub forking :
     (r : RuleName) → eqb (alternatives_of r) 0 ≡ false → eqb (alternatives_of r) 1 ≡ false →
     ((uses r).p ≡ true) × ((k : ℕ) × (alternatives_of r ≡ suc (suc k)))
-forking R.InterUp a b = clash (sym b)
-forking R.InterDown a b = clash (sym b)
-forking R.UnionUp a b = clash (sym b)
 forking R.UnionDown a b = (refl, (0, refl))
 forking R.DiffUp a b = (refl, (0, refl))
-forking R.DiffDown a b = clash (sym b)
-forking R.SingleUp a b = clash (sym b)
-forking R.SingleDown a b = clash (sym b)
-forking R.EmptyUnsat a b = clash (sym a)
 forking R.SetDiseq a b = (refl, (0, refl))
-forking R.EqUnsat a b = clash (sym a)
-forking R.TranspUp a b = clash (sym b)
-forking R.TranspDown a b = clash (sym b)
-forking R.JoinUp a b = clash (sym b)
-forking R.JoinDown a b = clash (sym b)
-forking R.ProdUp a b = clash (sym b)
-forking R.ProdDown a b = clash (sym b)
-forking R.ClosUpOne a b = clash (sym b)
-forking R.ClosUpTwo a b = clash (sym b)
 forking R.ClosDown a b = (refl, (1, refl))
-forking R.Sym a b = clash (sym b)
-forking R.SwapName a b = clash (sym b)
-forking R.SwapTerm a b = clash (sym b)
-forking R.LabelUnsat a b = clash (sym a)
-forking R.LabelSame a b = clash (sym b)
+forking _ a b = absurd cc
 
 -- no rule has more than three
 pub few_alternatives : (r : RuleName) → alternatives_of r ≤ 3
-few_alternatives R.InterUp = omega arith
-few_alternatives R.InterDown = omega arith
-few_alternatives R.UnionUp = omega arith
-few_alternatives R.UnionDown = omega arith
-few_alternatives R.DiffUp = omega arith
-few_alternatives R.DiffDown = omega arith
-few_alternatives R.SingleUp = omega arith
-few_alternatives R.SingleDown = omega arith
-few_alternatives R.EmptyUnsat = omega arith
-few_alternatives R.SetDiseq = omega arith
-few_alternatives R.EqUnsat = omega arith
-few_alternatives R.TranspUp = omega arith
-few_alternatives R.TranspDown = omega arith
-few_alternatives R.JoinUp = omega arith
-few_alternatives R.JoinDown = omega arith
-few_alternatives R.ProdUp = omega arith
-few_alternatives R.ProdDown = omega arith
-few_alternatives R.ClosUpOne = omega arith
-few_alternatives R.ClosUpTwo = omega arith
 few_alternatives R.ClosDown = omega arith
-few_alternatives R.Sym = omega arith
-few_alternatives R.SwapName = omega arith
-few_alternatives R.SwapTerm = omega arith
-few_alternatives R.LabelUnsat = omega arith
-few_alternatives R.LabelSame = omega arith
+few_alternatives _ = omega arith
 
 module _
     (K : ℕ → Option ℕ) (codes : List ℕ) (rows : List TermRow) (facts : List FactRow) (x : Step) (y : Plan) where

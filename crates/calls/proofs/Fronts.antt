@@ -162,11 +162,9 @@ module _ (xs : List FactRow) (i : ℕ) (a : AltRow) where
       go :
           (b₀ b₁ b₂ b₃ : Bool) →
           length (cond b₀ xs (cond b₁ wrote₁ (cond b₂ wrote₂ (cond b₃ wrote₃ wrote₄)))) ≡ length xs
-      go true b₁ b₂ b₃ = refl
-      go false true b₂ b₃ = simp length-set
-      go false false true b₃ = simp length-set
-      go false false false true = simp length-set
       go false false false false = simp length-set
+      go true _ _ _ = refl
+      go _ _ _ _ = simp length-set
 
   -- a front that ends at or before the place stays
   pub put_below : (c : ℕ) → c ≤ i → i + size_of a ≤ length xs → take c (put_alt xs i a) ≡ take c xs

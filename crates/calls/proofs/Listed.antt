@@ -34,15 +34,8 @@ other_op :
     (cond b5 (diff x y)
     (cond b6 (transp x) (cond b7 (prod x y) (cond b8 (join x y) (closure x)))))))))
     ≡ false
-other_op true b2 b3 b4 b5 b6 b7 b8 x y v = refl
-other_op false true b3 b4 b5 b6 b7 b8 x y v = refl
-other_op false false true b4 b5 b6 b7 b8 x y v = refl
-other_op false false false true b5 b6 b7 b8 x y v = refl
-other_op false false false false true b6 b7 b8 x y v = refl
-other_op false false false false false true b7 b8 x y v = refl
-other_op false false false false false false true b8 x y v = refl
-other_op false false false false false false false true x y v = refl
 other_op false false false false false false false false x y v = refl
+other_op _ _ _ _ _ _ _ _ x y v = refl
 
 -- the operation with the number 0 is the variable
 variable_op : (k x y : ℕ) (v : List ℕ) → is_variable (op_of k x y v) ≡ eqb k 0

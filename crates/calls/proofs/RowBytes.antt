@@ -37,16 +37,8 @@ row_bytes_are : (R : Row) → row_bytes R ≡ term_bytes (write_row R)
 row_bytes_are R = go R.arity R.op
   where
     go : (k : ℕ) (o : Op) → op_code o ∷ k ∷ subject.four (operands o) ≡ term_bytes (write_op k o)
-    go k variable = refl
-    go k empty = refl
     go k (single v) = ap (λ (l : List ℕ). 2 ∷ k ∷ l) (four_are v)
-    go k (union s r) = refl
-    go k (inter s r) = refl
-    go k (diff s r) = refl
-    go k (transp s) = refl
-    go k (prod s r) = refl
-    go k (join s r) = refl
-    go k (closure s) = refl
+    go k _ = refl
 
 -- and it is read as that
 pub row_read : (R : Row) → row_in (84 ∷ 77 ∷ row_bytes R) ≡ option.Some (row.Term (write_row R))
@@ -77,16 +69,8 @@ module _ (rs : List Row) (n t : ℕ) where
   op_back :
       (k : ℕ) (o : Op) → k ≤ 4 → OpFits rs n t k o →
       ◌≡◌ {A = Row} (read_row (write_op k o)) (record { op = o; arity = k })
-  op_back k variable l b = refl
-  op_back k empty l b = refl
   op_back k (single v) l b = λ i. record { op = single (taken k v b.0 l i); arity = k }
-  op_back k (union s r) l b = refl
-  op_back k (inter s r) l b = refl
-  op_back k (diff s r) l b = refl
-  op_back k (transp s) l b = refl
-  op_back k (prod s r) l b = refl
-  op_back k (join s r) l b = refl
-  op_back k (closure s) l b = refl
+  op_back k _ l b = refl
 
   pub row_back : (R : Row) → R.arity ≤ 4 → OpFits rs n t R.arity R.op → read_row (write_row R) ≡ R
   row_back R l b = op_back R.arity R.op l b

@@ -33,9 +33,8 @@ Went K p c q =
 
 -- A denied step keeps what a trial that is not closed keeps.
 live_denied : (t : Counts) (h : Held) (v : Verdict) → LiveBy v t h → LiveBy v (denied_once t) h
-live_denied t h verdict.Undecided l = record { fair = l.fair; stacked = l.stacked }
-live_denied t h verdict.Open l = record { fair = l.fair; stacked = l.stacked }
 live_denied t h verdict.Closed l = tt
+live_denied t h _ l = record { fair = l.fair; stacked = l.stacked }
 
 pub denied_whole : (t : Counts) (h : Held) → Whole t h → Whole (denied_once t) h
 denied_whole t h w = record {
@@ -55,13 +54,11 @@ denied_whole t h w = record {
 -- A denied step leaves the state and the verdict.
 state_denied : (t : Counts) (h : Held) (v : Verdict) → state_by v (denied_once t) h ≡ state_by v t h
 state_denied t h verdict.Undecided = refl
-state_denied t h verdict.Open = refl
-state_denied t h verdict.Closed = refl
+state_denied t h _ = refl
 
 verdict_denied : (t : Counts) (h : Held) (v : Verdict) → verdict_by v (denied_once t) h ≡ verdict_by v t h
 verdict_denied t h verdict.Undecided = refl
-verdict_denied t h verdict.Open = refl
-verdict_denied t h verdict.Closed = refl
+verdict_denied t h _ = refl
 
 read_denied : (t : Counts) (h : Held) → trying (read_trial (denied_once t) h) ≡ trying (counted (read_trial t h))
 read_denied t h =
@@ -133,13 +130,9 @@ module _ (single : Single) where
     went : (K : ℕ → Option ℕ) (p : Place) (c : Call) → Sound p → Turn (read_place p) c → Went K p c (called K p c)
     went K (sheet f h) (add bs) good turn = add_went K f h bs good _ _ _ (add_exact K f h bs good)
     went K (sheet f h) seal good turn = seal_went K f h good (seal_of f h) (seal_exact K f h good)
-    went K (sheet f h) (step bs) good turn = absurd turn
-    went K (sheet f h) settle good turn = absurd turn
-    went K (trial t h) (add bs) good turn = absurd turn
-    went K (trial t h) seal good turn = absurd turn
     went K (trial t h) (step bs) good turn = step_went K t h bs good _ _ _ (step_exact K t h bs good)
     went K (trial t h) settle good turn = settle_went K t h good (settle_of t) (settle_exact K t h good)
-    went K (ended t h) c good turn = absurd turn
+    went K _ _ good turn = absurd turn
 
     pub call_exact_by : CallIsExact
     call_exact_by K p c good turn = went K p c good turn
@@ -148,18 +141,10 @@ module _ (single : Single) where
     turned : (K : ℕ → Option ℕ) (p : Place) (c : Call) (st : Stage) → Goes K (read_place p) c st → Turn (read_place p) c
     turned K (sheet f h) (add bs) st g = tt
     turned K (sheet f h) seal st g = tt
-    turned K (sheet f h) (step bs) st (granted g) = elim g [ ]
-    turned K (sheet f h) (step bs) st (denied t never) = t
-    turned K (sheet f h) settle st (granted g) = elim g [ ]
-    turned K (sheet f h) settle st (denied t never) = t
-    turned K (trial t h) (add bs) st (granted g) = elim g [ ]
-    turned K (trial t h) (add bs) st (denied u never) = u
-    turned K (trial t h) seal st (granted g) = elim g [ ]
-    turned K (trial t h) seal st (denied u never) = u
     turned K (trial t h) (step bs) st g = tt
     turned K (trial t h) settle st g = tt
-    turned K (ended t h) c st (granted g) = elim g [ ]
-    turned K (ended t h) c st (denied u never) = u
+    turned K _ _ st (granted g) = elim g [ ]
+    turned K _ _ st (denied u never) = u
 
     runs : (K : ℕ → Option ℕ) (p : Place) (cs : List Call) → Sound p → Turns K p cs →
         Mix K (read_place p) cs (read_place (run K p cs))

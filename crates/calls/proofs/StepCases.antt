@@ -77,10 +77,6 @@ Told K (trying T) (step bs) =
 Told K (trying T) settle = Decided T.verdict
 
 pub told : {K : CodeMeaning} {st st' : Stage} {c : Call} → Grants K st c st' → Told K st c
-told (label_row a b c d l k) = tt
-told (term_row r a b c d e) = tt
-told (constraint_row f a b c d) = tt
-told (full_sheet a b c) = tt
 told (rule_step {b = b} {fs = fs} {alts = alts} r ph pl qh ql t w v e l a has) = (
   v,
   l,
@@ -120,6 +116,7 @@ told (model_step {b = b} {fs = fs} count rs v e l n lawful few sat) = (
       }),
 )
 told (verdict_there d) = d
+told _ = tt
 
 -- ── bytes ──────────────────────────────────────────────────────────────────
 
@@ -176,10 +173,8 @@ nine (a ∷ b ∷ c ∷ d ∷ f ∷ g ∷ h ∷ i ∷ j ∷ k ∷ more) e = absu
 
 -- three bytes and more are their entries and the rest
 three : (bs : List ℕ) → 3 ≤ length bs → bs ≡ byte bs 0 ∷ byte bs 1 ∷ byte bs 2 ∷ drop 3 bs
-three [] e = absurd (omega arith)
-three (a ∷ []) e = absurd (omega arith)
-three (a ∷ b ∷ []) e = absurd (omega arith)
 three (a ∷ b ∷ c ∷ more) e = refl
+three _ e = absurd (omega arith)
 
 -- what is read as a rule step
 pub read_rule :

@@ -19,9 +19,6 @@ Smaller n (join s r) = (s < n) × (r < n)
 Smaller n (closure s) = s < n
 
 pub smaller : (rs : List Row) (n t k : ℕ) (o : Op) → OpFits rs n t k o → Smaller t o
-smaller rs n t k variable h = tt
-smaller rs n t k empty h = tt
-smaller rs n t k (single v) h = tt
 smaller rs n t k (union s r) h = (h.0.0, h.1.0)
 smaller rs n t k (inter s r) h = (h.0.0, h.1.0)
 smaller rs n t k (diff s r) h = (h.0.0, h.1.0)
@@ -29,11 +26,9 @@ smaller rs n t k (transp s) h = h.0
 smaller rs n t k (prod s r) h = (h.2.0, h.3.0)
 smaller rs n t k (join s r) h = (h.2.0, h.3.0)
 smaller rs n t k (closure s) h = h.0.0
+smaller rs n t k _ h = tt
 
 node_same : (n : ℕ) (o : Op) (f g : ℕ → Tm) → Smaller n o → ((i : ℕ) → i < n → f i ≡ g i) → node n o f ≡ node n o g
-node_same n variable f g h e = refl
-node_same n empty f g h e = refl
-node_same n (single v) f g h e = refl
 node_same n (union s r) f g h e = λ i. Union (e s h.0 i) (e r h.1 i)
 node_same n (inter s r) f g h e = λ i. Inter (e s h.0 i) (e r h.1 i)
 node_same n (diff s r) f g h e = λ i. Diff (e s h.0 i) (e r h.1 i)
@@ -41,6 +36,7 @@ node_same n (transp s) f g h e = λ i. Transp (e s h i)
 node_same n (prod s r) f g h e = λ i. Prod (e s h.0 i) (e r h.1 i)
 node_same n (join s r) f g h e = λ i. Join (e s h.0 i) (e r h.1 i)
 node_same n (closure s) f g h e = λ i. Closure (e s h i)
+node_same n _ f g h e = refl
 
 pushed : List Tm → Row → List Tm
 pushed done r = done ++ (node (length done) r.op (λ i. get_or done i Empty) ∷ [])

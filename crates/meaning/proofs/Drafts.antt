@@ -21,16 +21,8 @@ found_last (z ∷ l) y (suc i) x h = ⊎_elim (λ p. inl p) (λ p. inr (ap suc p
 
 -- rows and constraints still fit when another name or another row comes in
 pub op_up : (rs : List Row) (n m : ℕ) → n ≤ m → (t k : ℕ) (o : Op) → OpFits rs n t k o → OpFits rs m t k o
-op_up rs n m l t k variable f = tt
-op_up rs n m l t k empty f = tt
 op_up rs n m l t k (single v) f = (f.0, All-weaker (λ i. i < n) (λ i. i < m) (λ i h. omega arith) v f.1)
-op_up rs n m l t k (union s r) f = f
-op_up rs n m l t k (inter s r) f = f
-op_up rs n m l t k (diff s r) f = f
-op_up rs n m l t k (transp s) f = f
-op_up rs n m l t k (prod s r) f = f
-op_up rs n m l t k (join s r) f = f
-op_up rs n m l t k (closure s) f = f
+op_up rs n m l t k _ f = f
 
 module _ (rs ms : List Row) where
   arity_more : (t k : ℕ) → Arity rs t k → Arity (rs ++ ms) t k
@@ -40,9 +32,6 @@ module _ (rs ms : List Row) where
   before_more t s k b = (b.0, arity_more s k b.1)
 
   pub op_more : (n t k : ℕ) (o : Op) → OpFits rs n t k o → OpFits (rs ++ ms) n t k o
-  op_more n t k variable f = tt
-  op_more n t k empty f = tt
-  op_more n t k (single v) f = f
   op_more n t k (union s r) f = (before_more t s k f.0, before_more t r k f.1)
   op_more n t k (inter s r) f = (before_more t s k f.0, before_more t r k f.1)
   op_more n t k (diff s r) f = (before_more t s k f.0, before_more t r k f.1)
@@ -50,6 +39,7 @@ module _ (rs ms : List Row) where
   op_more n t k (prod s r) f = (f.0, f.1, before_more t s f.0 f.2, before_more t r f.1 f.3, f.4)
   op_more n t k (join s r) f = (f.0, f.1, before_more t s (f.0 + 1) f.2, before_more t r (f.1 + 1) f.3, f.4)
   op_more n t k (closure s) f = (before_more t s 2 f.0, f.1)
+  op_more n t k _ f = f
 
   pub form_more : (n : ℕ) (f : Form) → FormFits rs n f → FormFits (rs ++ ms) n f
   form_more n (member u t) h = (arity_more t (length u) h.0, h.1)

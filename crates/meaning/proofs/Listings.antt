@@ -45,10 +45,7 @@ module _ (S : Sheet) (rs : List ℕ) where
       go true m' = let p = Memᴰ.eq_of_singleton m' in cc
       go false m' = Memᴰ.not-nil m'
   no_name_in e r false (member u t) m = Memᴰ.not-nil m
-  no_name_in e r true (equal a b) m = Memᴰ.not-nil m
-  no_name_in e r false (equal a b) m = Memᴰ.not-nil m
-  no_name_in e r true (same s q) m = Memᴰ.not-nil m
-  no_name_in e r false (same s q) m = Memᴰ.not-nil m
+  no_name_in e r _ _ m = Memᴰ.not-nil m
 
   no_name_there : (e r : ℕ) (cs : List Fact) → Mem (name e r) (in_lines S rs cs) → ⊥
   no_name_there e r [] m = Memᴰ.not-nil m
@@ -62,10 +59,7 @@ module _ (S : Sheet) (rs : List ℕ) where
         go true = Mem.tail m
         go false = m
     on_more v false (member u s) ws m = m
-    on_more v true (equal a b) ws m = m
-    on_more v false (equal a b) ws m = m
-    on_more v true (same s r) ws m = m
-    on_more v false (same s r) ws m = m
+    on_more v _ _ ws m = m
 
     -- a tuple's line comes from a positive fact on a variable
     abbrev From : List ℕ → List (List ℕ) → Type 0
@@ -82,10 +76,7 @@ module _ (S : Sheet) (rs : List ℕ) where
             (ap holds_tuples (sym x) ∙ e, (u, subst (λ (b : Bool). Mem u (cond b (u ∷ ws) ws)) (sym (eq-eqb s t x)) (Mem.head refl), y))
         go false e m' = absurd (Memᴰ.not-nil m')
     of_fact_line us false (member u s) ws m = absurd (Memᴰ.not-nil m)
-    of_fact_line us true (equal a b) ws m = absurd (Memᴰ.not-nil m)
-    of_fact_line us false (equal a b) ws m = absurd (Memᴰ.not-nil m)
-    of_fact_line us true (same s r) ws m = absurd (Memᴰ.not-nil m)
-    of_fact_line us false (same s r) ws m = absurd (Memᴰ.not-nil m)
+    of_fact_line us _ _ ws m = absurd (Memᴰ.not-nil m)
 
     of_tuple_line : (us : List ℕ) (cs : List Fact) → Mem (inside t us) (in_lines S rs cs) → From us (tuples cs t)
     of_tuple_line us [] m = absurd (Memᴰ.not-nil m)
@@ -107,10 +98,7 @@ module _ (S : Sheet) (rs : List ℕ) where
             (Memᴰ.cases_cons m')
         go false q m' = Memᴰ.append_right (in_line S rs true (member u s)) (later m')
     fact_line v false (member u s) ws ls e later m = later m
-    fact_line v true (equal a b) ws ls e later m = later m
-    fact_line v false (equal a b) ws ls e later m = later m
-    fact_line v true (same s r) ws ls e later m = later m
-    fact_line v false (same s r) ws ls e later m = later m
+    fact_line v _ _ ws ls e later m = later m
 
     tuple_line : (v : List ℕ) (cs : List Fact) → holds_tuples t ≡ true → Mem v (tuples cs t) → Mem (inside t (map (rep rs) v)) (in_lines S rs cs)
     tuple_line v [] e m = absurd (Memᴰ.not-nil m)

@@ -165,11 +165,7 @@ module _ (K : ℕ → Option ℕ) where
 
   denied_kept : (st : Stage) (c : Call) → Kept K st → Kept K (denied_at st c)
   denied_kept (trying T) (step bs) f = counted_kept T f
-  denied_kept (trying T) (add bs) f = f
-  denied_kept (trying T) seal f = f
-  denied_kept (trying T) settle f = f
-  denied_kept (filling D) c f = f
-  denied_kept (settled T) c f = f
+  denied_kept _ _ f = f
 
   pub goes_kept : {st st' : Stage} {c : Call} → Goes K st c st' → Kept K st → Kept K st'
   goes_kept (granted g) f = grants_kept g f

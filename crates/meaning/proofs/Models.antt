@@ -34,10 +34,7 @@ module _ (rs : List Row) (n t : ℕ) (v : List ℕ) where
   on_fits : (g : Bool) (f : Form) (us : List (List ℕ)) → FormFits rs n f → (Mem v us → Arity rs t (length v)) → Mem v (on_term t g f us) → Arity rs t (length v)
   on_fits true (member u s) us h below m = at_test s u us h.0 below (eqb s t) (λ e. eqb→eq s t (subst T (sym e) tt)) m
   on_fits false (member u s) us h below m = below m
-  on_fits true (equal a b) us h below m = below m
-  on_fits false (equal a b) us h below m = below m
-  on_fits true (same s r) us h below m = below m
-  on_fits false (same s r) us h below m = below m
+  on_fits _ _ us h below m = below m
 
   tuple_fits : (cs : List Fact) → AllByRecursion (λ (c : Fact). FormFits rs n c.form) cs → Mem v (tuples cs t) → Arity rs t (length v)
   tuple_fits [] h m = absurd (Memᴰ.not-nil m)

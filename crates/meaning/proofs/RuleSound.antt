@@ -35,10 +35,8 @@ all_parts P [] b h = (tt, h)
 all_parts P (x ∷ a) b h = let r = all_parts P a b h.1 in ((h.0, r.0), r.1)
 
 pair_of : {A : Type 0} (l : List A) → length l ≡ 2 → (x : A) × (y : A) × (l ≡ x ∷ (y ∷ []))
-pair_of [] h = absurd (omega arith)
-pair_of (x ∷ []) h = absurd (omega arith)
 pair_of (x ∷ y ∷ []) h = (x, y, refl)
-pair_of (x ∷ y ∷ z ∷ l) h = absurd (omega arith)
+pair_of _ h = absurd (omega arith)
 
 put_first : {A : Type 0} (e : ℕ → A) (n : ℕ) (m : A) (u : List A) → put e n (m ∷ u) n ≡ m
 put_first e n m u = let z : n + 0 ≡ n = omega arith in ap (put e n (m ∷ u)) (sym z) ∙ put_new e n (m ∷ u) 0 m (omega arith)
