@@ -1,5 +1,6 @@
 -- A constraint row is granted exactly as the subject has it (`constraint_exact`).
 use Rattle.std.proofs.Common.{◌≡◌, ℕ, ◌+◌, ◌<◌, Bool, true, false, cond, ◌&&◌, ltb, leb, List, [], ◌∷◌, ◌++◌, map, take, set, Ok, sym, refl, ap, ◌∙◌, subst, arith, ltb-false, ltb-true}
+use Rattle.std.proofs.lemmas.Bool.{and_from, and_parts}
 use mathlib.Core.Option.{Option}
 use borrow.Author.Tests.{both_ways}
 use Rattle.std.specs.List.{AllByRecursion}
@@ -21,7 +22,6 @@ use Rattle.calls.specs.Stores.{Held, with_facts}
 use Rattle.calls.specs.Sheets.{Filling, one_constraint, constraint_added, row_added, not_added}
 use Rattle.records.specs.Reading.{fact_said}
 use Rattle.calls.specs.Views.{Orderly, plain_in, read_draft}
-use Rattle.calls.proofs.Truth.{and_split, and_true}
 use Rattle.calls.proofs.Bytes.{RowTold, constraint_bytes}
 use Rattle.calls.proofs.FactBytes.{said_by, fact_written, said_back, said_again, sign_low, fact_refits}
 use Rattle.calls.proofs.OneMore.{map_push, all_push}
@@ -143,7 +143,7 @@ module _ (K : ℕ → Option ℕ) (f : Filling) (h : Held) (o : Orderly f h) (bs
       (record { result = Ok tt; sheet = one_constraint f; stores = stored (fact_said r) })
       (not_added f h (IllConstraint f.constraints_in)))
   by_test r e told el et l true q =
-      let p = and_split (leb r.sign 1) (fact_ok rows (f.labels + f.free) (fact_said r)) q in
+      let p = and_parts (leb r.sign 1) (fact_ok rows (f.labels + f.free) (fact_said r)) q in
       let q' = ap (λ (n : ℕ). fact_ok rows n (fact_said r)) (names_in f h o el) ∙ p.1 in (
         orderly (fact_said r) el et l q',
         grants r el et l told p.0
@@ -154,7 +154,7 @@ module _ (K : ℕ → Option ℕ) (f : Filling) (h : Held) (o : Orderly f h) (bs
       (λ c.
       (let b = fits_when r c in
       both_ways (leb r.sign 1 && fact_ok rows (f.labels + f.free) (fact_said r)) q
-      (and_true b.0
+      (and_from _ _ b.0
       (ap (λ (n : ℕ). fact_ok rows n (fact_said r)) (sym (names_in f h o el))
       ∙ (granted.1 (plain_in f h) good.rows_fit (names (read_sheet (plain_in f h))) (fact_said r)).1 b.1))))
 

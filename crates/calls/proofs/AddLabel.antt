@@ -13,7 +13,6 @@ use Rattle.meaning.specs.Mixes as subject
 use Rattle.calls.specs.Stores.{Held, with_labels}
 use Rattle.calls.specs.Sheets.{Filling, one_label, label_added, row_added, not_added}
 use Rattle.calls.specs.Views.{Orderly, plain_in, read_draft}
-use Rattle.calls.proofs.Truth.{clash}
 use Rattle.calls.proofs.Bytes.{RowTold}
 use Rattle.calls.proofs.OneMore.{no_front}
 use Rattle.calls.proofs.Enough.{label_kept}
@@ -22,7 +21,7 @@ use Rattle.calls.proofs.AddCases.{Exactly, refused}
 
 -- a code that is known has a value
 valued : (o : Option ℕ) → has_value o ≡ true → (x : ℕ) × (o ≡ some x)
-valued none e = clash e
+valued none e = absurd cc
 valued (some x) e = (x, refl)
 
 module _ (K : ℕ → Option ℕ) (f : Filling) (h : Held) (o : Orderly f h) (bs : List ℕ) where

@@ -1,14 +1,10 @@
 -- The first number below n that fails a test: there is none exactly where all pass (`first_bad_none`), and it
 -- is e exactly where e fails and all before it pass (`first_bad_least`, `first_bad_found`).
 use Rattle.std.proofs.Common.{◌≡◌, ℕ, zero, suc, ◌+◌, ◌<◌, Bool, true, false, cond, ◌↔◌, sym, refl, ap, ◌∙◌, subst, arith}
+use Rattle.std.proofs.lemmas.Bool.{and_from, and_parts}
 use mathlib.Core.Option.{Option, none, some, some-injective}
 use native.Mathlib.Decide.{dec_lt}
 use Rattle.calls.specs.Models.{each_below, or_bad, first_bad}
-use Rattle.calls.proofs.Flags.{and_split, and_join}
-
--- nothing is not something
-pub no_clash : {X Y : Type 0} {x : X} → some x ≡ none → Y
-no_clash e = absurd cc
 
 -- e is the first number below n that fails the test
 abbrev pub Least : (ℕ → Bool) → ℕ → ℕ → Type 0
@@ -18,7 +14,7 @@ module _ (f : ℕ → Bool) where
   pub each_true : (n k : ℕ) → each_below f n ≡ true → k < n → f k ≡ true
   each_true zero k h l = absurd (omega arith)
   each_true (suc n) k h l =
-      let r = and_split (each_below f n) (f n) h in
+      let r = and_parts (each_below f n) (f n) h in
       go (dec_lt k n) (λ l'. each_true n k r.0 l') r.1
     where
       go : Dec (k < n) → (k < n → f k ≡ true) → f n ≡ true → f k ≡ true
@@ -28,7 +24,7 @@ module _ (f : ℕ → Bool) where
   pub true_each : (n : ℕ) → ((k : ℕ) → k < n → f k ≡ true) → each_below f n ≡ true
   true_each zero h = refl
   true_each (suc n) h =
-      and_join (each_below f n) (f n) (true_each n (λ k l. h k (omega arith))) (h n (omega arith))
+      and_from (each_below f n) (f n) (true_each n (λ k l. h k (omega arith))) (h n (omega arith))
 
   pub each_exact : (n : ℕ) → (each_below f n ≡ true) ↔ ((k : ℕ) → k < n → f k ≡ true)
   each_exact n = (λ h k l. each_true n k h l, true_each n)
@@ -55,7 +51,7 @@ module _ (f : ℕ → Bool) where
     where
       here : (b : Bool) → f n ≡ b → cond b none (some n) ≡ none → f n ≡ true
       here true q h = q
-      here false q h = no_clash h
+      here false q h = absurd cc
 
       at_dec : Dec (k < n) → f n ≡ true → ((d : ℕ) → d < n → f d ≡ true) → f k ≡ true
       at_dec (yes l') t below = below k l'
@@ -63,7 +59,7 @@ module _ (f : ℕ → Bool) where
 
       go : ((d : ℕ) → first_bad f n ≡ none → d < n → f d ≡ true) →
           (o : Option ℕ) → first_bad f n ≡ o → or_bad o (f n) n ≡ none → f k ≡ true
-      go ih (some d) q h = no_clash h
+      go ih (some d) q h = absurd cc
       go ih none q h = at_dec (dec_lt k n) (here (f n) refl h) (λ d l'. ih d q l')
 
   pub all_good : (n : ℕ) → ((k : ℕ) → k < n → f k ≡ true) → first_bad f n ≡ none
@@ -74,11 +70,11 @@ module _ (f : ℕ → Bool) where
   first_bad_none n = (λ h k l. none_bad n k h l, all_good n)
 
   pub first_bad_least : (n e : ℕ) → first_bad f n ≡ some e → Least f n e
-  first_bad_least zero e h = no_clash (sym h)
+  first_bad_least zero e h = absurd cc
   first_bad_least (suc n) e h = go (first_bad_least n) (first_bad f n) refl h
     where
       here : (b : Bool) → f n ≡ b → first_bad f n ≡ none → cond b none (some n) ≡ some e → Least f (suc n) e
-      here true t q h = no_clash (sym h)
+      here true t q h = absurd cc
       here false t q h =
           let s : n ≡ e = some-injective _ _ h in
           (omega arith, subst (λ (x : ℕ). f x ≡ false) s t, λ d l. none_bad n d q (omega arith))

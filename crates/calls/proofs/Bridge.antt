@@ -1,5 +1,6 @@
 -- A step has a plan exactly where a rule of the calculus applies, with the same alternatives (`bridged`).
 use Rattle.std.proofs.Common.{◌≡◌, ℕ, ◌+◌, ◌≤◌, Bool, true, false, cond, ◌&&◌, eqb, List, [], ◌∷◌, ◌++◌, map, Some, None, Ok, Err, Option as Maybe, Result, sym, refl, ap, ◌∙◌, subst, ap₂, arith, eq-eqb, eqb-true}
+use Rattle.std.proofs.lemmas.Bool.{and_from, and_parts}
 use mathlib.Core.Option.{Option, some}
 use Rattle.std.specs.List.{AllByRecursion, slice_get}
 use Rattle.std.proofs.ByRecursion.{All-append}
@@ -23,7 +24,6 @@ use Rattle.calls.specs.Reading.{Good}
 use Rattle.calls.specs.Passing.{alt_rows, Passes, second_of, From, from_none, from_one, from_twice, from_two}
 use Rattle.calls.specs.Bridge.{plan_alts, Fair, AppliesTo, Bridged}
 use Rattle.meaning.proofs.RuleFits.{Fits, rule_fits}
-use Rattle.calls.proofs.Truth.{clash, and_true, and_split}
 use Rattle.calls.proofs.Lookups.{unmap, remap, to_nth, of_nth, all_at}
 use Rattle.calls.proofs.Numbers.{named, numbered}
 use Rattle.calls.proofs.Rows.{full}
@@ -37,7 +37,7 @@ same_plan y z h = cc
 
 -- a field that is zero, by its test
 zero_when : (b : Bool) (p : ℕ) → b ≡ false → untouched b p ≡ true → p ≡ 0
-zero_when true p e h = clash (sym e)
+zero_when true p e h = absurd cc
 zero_when false p e h = eqb-true p 0 h
 
 module _ (K : ℕ → Option ℕ) (P : Plain) (good : Good P) where
@@ -89,7 +89,7 @@ module _ (K : ℕ → Option ℕ) (P : Plain) (good : Good P) where
         ∙ ap (plan_p K P.codes P.rows facts r x) hp.0
         ∙ ap (plan_q K P.codes P.rows r x f) hq.0
         ∙ ap (λ (z : Bool). cond z (Ok (record { rule = r; cited = cites r x f g })) (Err NotMet))
-        (and_true (and_true hp.1 (and_true hq.1 (and_true ht hw))) m)
+        (and_from _ _ (and_from _ _ hp.1 (and_from _ _ hq.1 (and_from _ _ ht hw))) m)
 
     look_none : (b : Bool) (p : ℕ) → b ≡ false → p ≡ 0 → Looks b p no_fact
     look_none b p e z = (ap (λ (c : Bool). looked c facts p) e, ap₂ untouched e z)
@@ -162,7 +162,7 @@ module _ (K : ℕ → Option ℕ) (P : Plain) (good : Good P) where
 
     sees : (b : Bool) (p : ℕ) (f : FactRow) → b ≡ true → looked b facts p ≡ Some f → slice_get facts p ≡ Some f
     sees true p f e h = h
-    sees false p f e h = clash e
+    sees false p f e h = absurd cc
 
     fits_seen : (b : Bool) (p : ℕ) (f : FactRow) → looked b facts p ≡ Some f → b ≡ true → FactFits P n f
     fits_seen b p f h e = all_at (FactFits P n) facts p f fit (of_nth facts p f (sees b p f e h))
@@ -205,10 +205,10 @@ module _ (K : ℕ → Option ℕ) (P : Plain) (good : Good P) where
             looked (uses r).p facts x.p ≡ Some f → looked (uses r).q facts x.q ≡ Some g →
             (zeros_kept r x && line_met r (cites r x f g)) ≡ true → SomeApply x
         by_met r f g er ep eq h =
-            let m = and_split (zeros_kept r x) _ h in
-            let hp = and_split (untouched (uses r).p x.p) _ m.0 in
-            let hq = and_split (untouched (uses r).q x.q) _ hp.1 in
-            let ht = and_split (untouched (uses r).t x.t) _ hq.1 in
+            let m = and_parts (zeros_kept r x) _ h in
+            let hp = and_parts (untouched (uses r).p x.p) _ m.0 in
+            let hq = and_parts (untouched (uses r).q x.q) _ hp.1 in
+            let ht = and_parts (untouched (uses r).t x.t) _ hq.1 in
             let fp = fits_seen (uses r).p x.p f ep in
             let fq = fits_seen (uses r).q x.q g eq in
             let v = found K P good r n (eqb x.p x.q) f g x.t x.w fp fq ht.0 ht.1 m.1 in

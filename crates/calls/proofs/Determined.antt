@@ -20,7 +20,7 @@ use Rattle.records.specs.Reading.{fact_said}
 use Rattle.calls.specs.RuleSteps.{branch_facts}
 use Rattle.calls.specs.Trials.{plain_of, branch_of}
 use Rattle.calls.specs.Views.{Orderly, Whole, Live, LiveBy, plain_in, read_draft, state_of, state_by, verdict_by, read_trial}
-use Rattle.calls.specs.Runs.{sheet, trial, ended}
+use Rattle.calls.specs.Runs.{sheet, trial}
 use Rattle.calls.proofs.Granted as rows
 use Rattle.calls.proofs.Bridge.{bridged}
 use Rattle.calls.proofs.Written.{fact_back}

@@ -1,5 +1,6 @@
 -- A term row, or a constraint, that fits passes its tests (`row_passes`, `fact_passes`).
 use Rattle.std.proofs.Common.{◌≡◌, ℕ, zero, suc, ◌+◌, ◌<◌, ◌≤◌, Bool, true, false, cond, eqb, ltb, leb, List, [], ◌∷◌, length, get_or, sym, refl, ◌∙◌, subst, ap₂, arith, ltb-false, ltb-true, lt-ltb, eq-eqb, le-leb}
+use Rattle.std.proofs.lemmas.Bool.{and_from}
 use Rattle.std.specs.List.{AllByRecursion}
 use Rattle.records.specs.declared.rows.Fact.{Fact as FactRow}
 use Rattle.records.specs.declared.rows.TermRow.{TermRow}
@@ -11,7 +12,7 @@ use Rattle.meaning.specs.Terms.{Form, member, equal, same, names, Arity, OpFits,
 use Rattle.calls.specs.Reading.{names_of, read_row, read_form, write_form, row_of, write_op, Plain, read_sheet}
 use Rattle.calls.specs.Reading.{RowFits, FactFits}
 use Rattle.calls.specs.Tests.{place_ok, places, in_tests, same_tests, alike_tests, fact_ok, row_tests, row_ok}
-use Rattle.calls.proofs.Truth.{and_true, all_hold}
+use Rattle.calls.proofs.Truth.{all_hold}
 use Rattle.calls.proofs.Tuples.{past}
 use Rattle.calls.proofs.Rows.{arity_of, term_below}
 
@@ -109,8 +110,8 @@ module _ (P : Plain) where
   pub row_passes : (t : ℕ) (r : TermRow) → RowFits P t r → row_ok P.rows (names (read_sheet P)) t r ≡ true
   row_passes t r b =
       subst (λ (x : TermRow). row_ok P.rows (names (read_sheet P)) t x ≡ true) b.written
-      (and_true (low_holds r.arity (read_row r).op b.low)
-      (and_true (high_holds r.arity (read_row r).op b.high)
+      (and_from _ _ (low_holds r.arity (read_row r).op b.low)
+      (and_from _ _ (high_holds r.arity (read_row r).op b.high)
       (all_hold _ (op_holds (names (read_sheet P)) t r.arity (read_row r).op b.fits))))
 
   -- a form that fits passes its tests, as written
@@ -123,7 +124,7 @@ module _ (P : Plain) where
         places_hold n (row_at P.rows t).arity u (sym (arity_of P b.0))
             b.1,
       )
-  form_holds n g (equal x y) b = and_true (lt-ltb x n b.0) (and_true (lt-ltb y n b.1) refl)
+  form_holds n g (equal x y) b = and_from _ _ (lt-ltb x n b.0) (and_from _ _ (lt-ltb y n b.1) refl)
   form_holds n g (same s r) b =
       all_hold
       (same_tests (length P.rows) (row_at P.rows s).arity (row_at P.rows r).arity

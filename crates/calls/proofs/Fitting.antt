@@ -1,6 +1,7 @@
 -- The room tests of a step speak of all its alternatives (`room_told`).
-use Rattle.std.proofs.Common.{◌≡◌, ℕ, ◌+◌, ◌≤◌, Bool, true, false, cond, ◌||◌, eqb, ltb, ◌↔◌, List, [], ◌∷◌, length, sym, refl, subst, arith, ltb-false, le-ltb}
+use Rattle.std.proofs.Common.{◌≡◌, ℕ, ◌+◌, ◌≤◌, Bool, false, cond, ◌||◌, eqb, ltb, ◌↔◌, List, [], ◌∷◌, length, sym, refl, subst, arith, ltb-false, le-ltb}
 use Rattle.std.specs.List.{AllByRecursion}
+use Rattle.std.proofs.lemmas.Bool.{or_parts}
 use Rattle.records.specs.declared.rule.Rule.{Rule as RuleName}
 use Rattle.records.specs.declared.rule.Rule.TheVariants as R
 use Rattle.rules.specs.declared.cited.Cited.{Cited}
@@ -10,19 +11,13 @@ use Rattle.rules.specs.Rules.{alternative_of, size_of}
 use Rattle.calls.specs.Reading.{alt_facts}
 use Rattle.calls.specs.Passing.{alt_rows}
 use Rattle.calls.specs.Fitting.{RoomTold}
-use Rattle.calls.proofs.Truth.{clash}
 
 -- three counts within the limit l
 within : (l x y z : ℕ) → (ltb l x || (ltb l y || ltb l z)) ≡ false → (x ≤ l) × (y ≤ l) × (z ≤ l)
-within l x y z h = go (ltb l x) (ltb l y) (ltb l z) refl refl refl h
-  where
-    go :
-        (a b c : Bool) → ltb l x ≡ a → ltb l y ≡ b → ltb l z ≡ c → (a || (b || c)) ≡ false →
-        (x ≤ l) × (y ≤ l) × (z ≤ l)
-    go true b c ex ey ez h = clash (sym h)
-    go false true c ex ey ez h = clash (sym h)
-    go false false true ex ey ez h = clash (sym h)
-    go false false false ex ey ez h = (ltb-false l x ex, ltb-false l y ey, ltb-false l z ez)
+within l x y z h =
+    let r = or_parts _ _ h in
+    let q = or_parts _ _ r.1 in
+    (ltb-false l x r.0, ltb-false l y q.0, ltb-false l z q.1)
 
 over : (l x y z : ℕ) → x ≤ l → y ≤ l → z ≤ l → (ltb l x || (ltb l y || ltb l z)) ≡ false
 over l x y z hx hy hz = λ i. le-ltb l x hx i || (le-ltb l y hy i || le-ltb l z hz i)

@@ -1,6 +1,6 @@
 -- A rule that forks cites its fact p (`made`), and its alternatives are made again from that fact alone
 -- (`again`).
-use Rattle.std.proofs.Common.{◌≡◌, ℕ, suc, ◌≤◌, Bool, true, false, cond, ◌&&◌, eqb, List, Some, None, Ok, Err, Option as Maybe, Result, sym, refl, subst, arith}
+use Rattle.std.proofs.Common.{◌≡◌, ℕ, suc, ◌≤◌, Bool, true, false, cond, ◌&&◌, eqb, List, Some, None, Ok, Err, Option as Maybe, Result, refl, subst, arith}
 use mathlib.Core.Option.{Option}
 use Rattle.records.specs.declared.rows.Fact.{Fact as FactRow}
 use Rattle.records.specs.declared.rows.TermRow.{TermRow}
@@ -14,7 +14,6 @@ use Rattle.rules.specs.Rules.{alternative_of, alternatives_of, line_met}
 use Rattle.records.specs.Kinds.{rule_of}
 use Rattle.rules.specs.Looked.{uses, looked, zeros_kept, cited_by, plan_q, plan_p, plan_rule, planned}
 use Rattle.calls.specs.RuleSteps.{cited_again}
-use Rattle.calls.proofs.Truth.{clash}
 
 -- a refusal is no plan
 pub refused_not : {X Y : Type 0} (e : Refusal) (y : Y) → ◌≡◌ {A = Result Y Refusal} (Err e) (Ok y) → X

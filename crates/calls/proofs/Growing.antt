@@ -1,8 +1,9 @@
 -- A rule with alternatives is granted exactly where there is room for them: one alternative is appended, and
 -- of several the first, with a fork for the others (`grows`).
-use Rattle.std.proofs.Common.{◌≡◌, ℕ, zero, suc, ◌+◌, ◌<◌, ◌≤◌, Bool, true, false, cond, eqb, ltb, List, ◌++◌, length, set, Some, Ok, Err, Result, sym, refl, ap, ◌∙◌, subst, arith, length-set, ltb-false, ltb-true, eqb-true}
+use Rattle.std.proofs.Common.{◌≡◌, ℕ, ◌+◌, ◌<◌, ◌≤◌, Bool, true, false, cond, eqb, ltb, List, ◌++◌, length, set, Some, Ok, Err, Result, sym, refl, ap, ◌∙◌, subst, arith, length-set, ltb-false, ltb-true, eqb-true}
 use mathlib.Core.Option.{Option}
 use Rattle.std.specs.List.{AllByRecursion, slice_get}
+use Rattle.std.proofs.lemmas.Bool.{both_ways, eqb-false}
 use Rattle.std.proofs.lemmas.List.{take_more_set}
 use Rattle.records.specs.declared.rows.Step.{Step}
 use Rattle.records.specs.declared.refusal.Refusal.{Refusal}
@@ -26,7 +27,6 @@ use Rattle.calls.specs.Sheets.{Counts}
 use Rattle.calls.specs.RuleSteps.{cited_again, forked, growing, codes_of, rows_of, branch_facts, forks_of, put_alt}
 use Rattle.calls.specs.Trials.{plain_of, branch_of}
 use Rattle.calls.specs.Views.{Whole}
-use Rattle.calls.proofs.Truth.{clash}
 use Rattle.calls.proofs.Bridge.{bridged}
 use Rattle.calls.proofs.Fitting.{room_told, sized}
 use Rattle.calls.proofs.Fronts.{nth_low, put_front, put_length, put_below}
@@ -35,11 +35,6 @@ use Rattle.calls.proofs.Forking.{again, forking, made}
 use Rattle.calls.proofs.Landings.{adds_land, forks_land}
 use Rattle.calls.proofs.Rooms.{has_room, room_names, room_facts, room_forks}
 use Rattle.calls.proofs.Following.{open_forks, Right, live, facts_long, forks_long, lands_follow, refused, granted}
-
--- what is not zero is more
-some_left : (c : ℕ) → eqb c 0 ≡ false → 0 < c
-some_left zero e = clash (sym e)
-some_left (suc c) e = omega arith
 
 module _
     (t : Counts) (h : Held) (w : Whole t h) (un : t.verdict ≡ verdict.Undecided) (room : t.granted < 1000000)
@@ -62,7 +57,7 @@ module _
   first_has : (Q : AltRow → Type 0) → AllByRecursion Q rows → Q a
   first_has Q all =
       all_at_number Q (alternative_of y.rule y.cited t.names) (alternatives_of y.rule) 0 all
-      (some_left (alternatives_of y.rule) z₀)
+      (let n = eqb-false (alternatives_of y.rule) 0 z₀ in omega arith)
 
   first_names : Names → t.names + a.fresh ≤ 64
   first_names all = first_has (λ (z : AltRow). t.names + z.fresh ≤ 64) all
@@ -178,12 +173,11 @@ module _
   at_facts true e names =
       refused t h w un room K x y ep (NoRoom over.Facts)
       (λ has.
-      clash
-      (sym
+      both_ways _
       ((room_told.1 y.rule y.cited t.names t.facts w.few_facts).1
       (subst (λ (k : ℕ). AllByRecursion (λ (z : AltRow). k + length (alt_facts z) ≤ 1024) rows) (facts_long t h w un room)
       (room_facts (plain_of t h) (branch_facts t h) t.names (forks_of t h) y.rule y.cited has)))
-      ∙ e))
+      e)
   at_facts false e names =
       at_one (eqb (alternatives_of y.rule) 1) refl names
       ((room_told.1 y.rule y.cited t.names t.facts w.few_facts).0 e)
@@ -195,11 +189,10 @@ module _
   at_names true e =
       refused t h w un room K x y ep (NoRoom over.Names)
       (λ has.
-      clash
-      (sym
+      both_ways _
       ((room_told.0 y.rule y.cited t.names w.few_names).1
       (room_names (plain_of t h) (branch_facts t h) t.names (forks_of t h) y.rule y.cited has))
-      ∙ e))
+      e)
   at_names false e =
       at_facts (facts_over y.rule y.cited t.names t.facts) refl
       ((room_told.0 y.rule y.cited t.names w.few_names).0 e)

@@ -18,7 +18,6 @@ pub mod Exact
 pub mod Stays
 pub mod Granted
 pub mod Fitting
-pub mod Flags
 pub mod Below
 pub mod Lawful
 pub mod Once

@@ -1,6 +1,6 @@
 -- A model is granted exactly where the subject has a case for its bytes, given that its answer is right
 -- (`model_step_exact`); with that, every step is (`step_exact`).
-use Rattle.std.proofs.Common.{◌≡◌, ℕ, ◌+◌, ◌<◌, ◌≤◌, Bool, true, false, cond, eqb, leb, ◌⊎◌, ◌↔◌, List, ◌∷◌, length, drop, Ok, Err, Result, sym, refl, ap, ◌∙◌, subst, inl, inr, arith, length-append, length-drop, eqb-true, le-leb, leb-false, leb-true}
+use Rattle.std.proofs.Common.{◌≡◌, ℕ, ◌+◌, ◌<◌, ◌≤◌, Bool, true, false, cond, eqb, leb, ◌⊎◌, ◌↔◌, List, ◌∷◌, length, drop, Ok, Err, Result, sym, refl, ap, ◌∙◌, subst, inl, inr, arith, length-append, length-drop, eqb-true, leb-false, leb-true}
 use mathlib.Core.Option.{Option}
 use borrow.Author.Tests.{eqb-false}
 use Rattle.std.proofs.lemmas.List.{take_at}
@@ -16,14 +16,14 @@ use Rattle.meaning.specs.Model.{Lawful, Named}
 use Rattle.meaning.specs.Mixes.{most_tuples, OPEN, Few, trying, Grants, model_step}
 use Rattle.meaning.specs.Mixes as subject
 use Rattle.calls.specs.Reading.{read_sheet}
-use Rattle.calls.specs.Stores.{Held, Enough, enough}
+use Rattle.calls.specs.Stores.{Held, enough}
 use Rattle.calls.specs.Sheets.{Counts}
 use Rattle.calls.specs.RuleSteps.{Stepped, left_denied}
 use Rattle.calls.specs.Models.{model_answer}
 use Rattle.calls.specs.Trials.{plain_of, branch_of, opened, model_done, moved_on, stepped_at}
 use Rattle.calls.specs.Views.{Live, LiveBy, read_trial, Whole}
 use Rattle.calls.specs.Exact.{StepExact, StepIsExact}
-use Rattle.calls.proofs.Truth.{clash, and_true}
+use Rattle.calls.proofs.Enough.{enough_holds}
 use Rattle.calls.proofs.Forking.{refused_not}
 use Rattle.calls.proofs.Following.{open_forks}
 use Rattle.calls.proofs.StepCases.{
@@ -192,17 +192,9 @@ pub model_step_exact :
     (moved_on K t h (model n rs)).result
 model_step_exact K t h bs n rs w un e right = by_length K t h bs n rs w un e right (eqb (length rs) n) refl
 
--- stores that are long enough pass the test of it
-enough_told : (h : Held) → Enough h → enough h ≡ true
-enough_told h b =
-    and_true (le-leb _ _ b.labels)
-    (and_true (le-leb _ _ b.terms)
-    (and_true (le-leb _ _ b.facts)
-    (and_true (le-leb _ _ b.forks) (and_true (le-leb _ _ b.tuples) (le-leb _ _ b.representatives)))))
-
 -- every step, where models are answered right
 pub step_exact : ModelsRight → StepIsExact
-step_exact right K t h bs w = by_stores (enough h) (enough_told h w.enough)
+step_exact right K t h bs w = by_stores (enough h) (enough_holds h w.enough)
   where
     by_move :
         (m : Move) → t.verdict ≡ verdict.Undecided → step_in bs ≡ m →
@@ -226,4 +218,4 @@ step_exact right K t h bs w = by_stores (enough h) (enough_told h w.enough)
         (cond b (stepped_at t.verdict K t h (step_in bs)) (left_denied t h StoresShort)).stores
         (cond b (stepped_at t.verdict K t h (step_in bs)) (left_denied t h StoresShort)).result
     by_stores true q = by_verdict t.verdict refl
-    by_stores false q = clash q
+    by_stores false q = absurd cc

@@ -3,22 +3,7 @@ use Rattle.std.proofs.Common.{◌≡◌, ℕ, ◌≤◌, List, [], ◌∷◌, le
 use Rattle.std.specs.declared.option.Option.TheVariants as option
 use Rattle.records.specs.declared.record.RowRecord.TheVariants as row
 use Rattle.records.specs.Reading.{row_in}
-use Rattle.meaning.specs.Terms.{
-  Op,
-  variable,
-  empty,
-  single,
-  union,
-  inter,
-  diff,
-  transp,
-  prod,
-  join,
-  closure,
-  Row,
-  names,
-  OpFits,
-}
+use Rattle.meaning.specs.Terms.{Op, single, Row, names, OpFits}
 use Rattle.meaning.specs.Mixes.{op_code, operands, row_bytes}
 use Rattle.meaning.specs.Mixes as subject
 use Rattle.calls.specs.Reading.{four, read_row, write_op, write_row, Plain, read_sheet, RowFits}

@@ -1,6 +1,6 @@
 -- There is no first false constraint exactly where every constraint holds: `satisfies_exact`; and it is k
 -- exactly where constraint k does not hold and all before it do: `first_false_least`, `first_false_found`.
-use Rattle.std.proofs.Common.{◌≡◌, ℕ, zero, suc, ◌+◌, ◌<◌, Bool, true, false, cond, ◌↔◌, List, [], ◌∷◌, length, sym, refl, ap, ◌∙◌, subst, arith}
+use Rattle.std.proofs.Common.{◌≡◌, ℕ, zero, suc, ◌+◌, ◌<◌, Bool, true, false, cond, ◌↔◌, List, [], ◌∷◌, length, refl, ap, ◌∙◌, subst, arith}
 use mathlib.Core.Option.{none, some, some-injective}
 use native.Mathlib.Decide.{ℕ_discrete}
 use lib.ListN.{get_elem?}
@@ -8,19 +8,17 @@ use Rattle.std.specs.List.{AllByRecursion}
 use Rattle.meaning.specs.Terms.{Fact, Sheet}
 use Rattle.meaning.specs.Meaning.{Interp, SatFact, Satisfies}
 use Rattle.calls.specs.Models.{is_yes, sat_dec, is_true, first_false}
-use Rattle.calls.proofs.Flags.{clash}
-use Rattle.calls.proofs.Below.{no_clash}
 
 yes_is : {P : Type 0} (d : Dec P) → is_yes d ≡ true → P
 yes_is (yes p) e = p
-yes_is (no n) e = clash e
+yes_is (no n) e = absurd cc
 
 is_yes_of : {P : Type 0} (d : Dec P) → P → is_yes d ≡ true
 is_yes_of (yes p) q = refl
 is_yes_of (no n) q = absurd (n q)
 
 no_is : {P : Type 0} (d : Dec P) → is_yes d ≡ false → ¬ P
-no_is (yes p) e = clash (sym e)
+no_is (yes p) e = absurd cc
 no_is (no n) e = n
 
 is_no_of : {P : Type 0} (d : Dec P) → ¬ P → is_yes d ≡ false
@@ -49,7 +47,7 @@ module _ (S : Sheet) (I : Interp ℕ) where
           (b : Bool) → is_true S I c ≡ b → cond b (first_false S I cs (k + 1)) (some k) ≡ none →
           SatFact S.rows I I.name c × AllByRecursion (SatFact S.rows I I.name) cs
       go ih true e h = (true_is c e, ih h)
-      go ih false e h = no_clash h
+      go ih false e h = absurd cc
 
   none_false : (cs : List Fact) (k : ℕ) → AllByRecursion (SatFact S.rows I I.name) cs →
       first_false S I cs k ≡ none
@@ -76,7 +74,7 @@ module _ (S : Sheet) (I : Interp ℕ) where
 
   least_from : (cs : List Fact) (k j : ℕ) → first_false S I cs k ≡ some j →
       (i : ℕ) × (j ≡ k + i) × FirstFalse cs i
-  least_from [] k j h = no_clash (sym h)
+  least_from [] k j h = absurd cc
   least_from (c ∷ cs) k j h = go (least_from cs (k + 1) j) (is_true S I c) refl h
     where
       broken_at : is_true S I c ≡ false → (x : Fact) → some c ≡ some x → ¬ (SatFact S.rows I I.name x)

@@ -1,38 +1,13 @@
 -- What a granted step or settle rests on, told from its case (`told`), and the bytes of a step, told from how
 -- they are read (`read_rule`, `read_model`) and read where they are told (`rule_reads`, `model_reads`).
 use Rattle.std.proofs.Common.{◌≡◌, ℕ, ◌+◌, ◌*◌, ◌<◌, ◌≤◌, Bool, true, false, cond, ◌&&◌, eqb, leb, ◌⊎◌, List, [], ◌∷◌, length, drop, sym, refl, ◌∙◌, inl, inr, arith, eqb-true, le-leb, leb-true}
+use Rattle.std.proofs.lemmas.Bool.{and_parts}
 use Rattle.records.specs.declared.rows.Step.{Step}
 use Rattle.records.specs.Reading.{rule, model, other, byte, marked, whole, step_of, step_in}
 use Rattle.meaning.specs.Meaning.{CodeMeaning, Satisfies}
 use Rattle.meaning.specs.Calculus.{Alt, Branch, Fork, running, Applies}
 use Rattle.meaning.specs.Model.{Lawful, Named}
-use Rattle.meaning.specs.Mixes.{
-  most_tuples,
-  most_records,
-  undecided,
-  Decided,
-  Trial,
-  Stage,
-  filling,
-  trying,
-  settled,
-  Call,
-  add,
-  seal,
-  step,
-  settle,
-  Room,
-  Few,
-  Grants,
-  label_row,
-  term_row,
-  constraint_row,
-  full_sheet,
-  rule_step,
-  model_step,
-  verdict_there,
-}
-use Rattle.calls.proofs.Truth.{and_split}
+use Rattle.meaning.specs.Mixes.{most_tuples, most_records, undecided, Decided, Trial, Stage, filling, trying, settled, Call, add, seal, step, settle, Room, Few, Grants, rule_step, model_step, verdict_there}
 
 -- ── cases ──────────────────────────────────────────────────────────────────
 
@@ -191,8 +166,8 @@ read_rule bs x e = go (whole 9 83 84 bs) (leb 3 (length bs) && marked 77 68 bs) 
         ≡ 83 ∷ 84 ∷ byte bs 2 ∷ byte bs 3 ∷ byte bs 4 ∷ byte bs 5 ∷ byte bs 6 ∷ byte bs 7 ∷ byte bs 8 ∷ [])
         × (step_of bs ≡ x)
     go true c q e =
-        let s = and_split (eqb (length bs) 9) (marked 83 84 bs) q in
-        let m = and_split (eqb (byte bs 0) 83) (eqb (byte bs 1) 84) s.1 in (
+        let s = and_parts (eqb (length bs) 9) (marked 83 84 bs) q in
+        let m = and_parts (eqb (byte bs 0) 83) (eqb (byte bs 1) 84) s.1 in (
           nine bs (eqb-true _ _ s.0)
               ∙ (λ i. eqb-true (byte bs 0) 83 m.0 i ∷ eqb-true (byte bs 1) 84 m.1 i ∷ byte bs 2 ∷ byte bs 3
               ∷ byte bs 4 ∷ byte bs 5 ∷ byte bs 6 ∷ byte bs 7 ∷ byte bs 8 ∷ []),
@@ -212,8 +187,8 @@ read_model bs n rs e = go (whole 9 83 84 bs) (leb 3 (length bs) && marked 77 68 
         bs ≡ 77 ∷ 68 ∷ n ∷ rs
     go true c q e = rule_not_model (step_of bs) n rs e
     go false true q e =
-        let s = and_split (leb 3 (length bs)) (marked 77 68 bs) q in
-        let m = and_split (eqb (byte bs 0) 77) (eqb (byte bs 1) 68) s.1 in
+        let s = and_parts (leb 3 (length bs)) (marked 77 68 bs) q in
+        let m = and_parts (eqb (byte bs 0) 77) (eqb (byte bs 1) 68) s.1 in
         let f = model_same (byte bs 2) n (drop 3 bs) rs e in
         three bs (leb-true _ _ s.0)
         ∙ (λ i. eqb-true (byte bs 0) 77 m.0 i ∷ eqb-true (byte bs 1) 68 m.1 i ∷ f.0 i ∷ f.1 i)

@@ -23,7 +23,6 @@ use Rattle.calls.specs.RuleSteps.{branch_facts, come_to, Stepped, taken, left_de
 use Rattle.calls.specs.Trials.{plain_of, branch_of, moved_on, stepped_at}
 use Rattle.calls.specs.Views.{state_by, verdict_by, read_trial, Whole}
 use Rattle.calls.specs.Exact.{Denied, StepExact, SettleExact, SettleIsExact}
-use Rattle.calls.proofs.Truth.{clash}
 use Rattle.calls.proofs.Following.{open_forks, Right}
 use Rattle.calls.proofs.Steps.{come_right}
 use Rattle.calls.proofs.StepCases.{
@@ -185,7 +184,7 @@ module _ (K : ℕ → Option ℕ) (t : Counts) (h : Held) (bs : List ℕ) (w : W
           (b : Bool) → b ≡ false → (s : Stepped) →
           StepExact K t h bs (cond b s (left_denied t h NotStep)).trial (cond b s (left_denied t h NotStep)).stores
           (cond b s (left_denied t h NotStep)).result
-      go true q s = clash (sym q)
+      go true q s = absurd cc
       go false q s = left K t h bs NotStep (short_model_denied n rs e short)
 
 pub rule_step_exact :
@@ -220,7 +219,7 @@ pub decided_step_exact :
     (K : ℕ → Option ℕ) (t : Counts) (h : Held) (bs : List ℕ) (v : Verdict) → t.verdict ≡ v →
     reached_by v ≡ true → (m : Move) →
     StepExact K t h bs (stepped_at v K t h m).trial (stepped_at v K t h m).stores (stepped_at v K t h m).result
-decided_step_exact K t h bs verdict.Undecided e r m = clash r
+decided_step_exact K t h bs verdict.Undecided e r m = absurd cc
 decided_step_exact K t h bs verdict.Closed e r m =
     left K t h bs VerdictReached
     (decided_denied K t h bs (subst (λ (v : Verdict). Decided (verdict_by v t h)) (sym e) tt))
