@@ -21,7 +21,8 @@ use Rattle.calls.specs.Views.{Orderly, plain_in, read_draft}
 use Rattle.calls.proofs.Lookups.{below}
 use Rattle.calls.proofs.Bytes.{RowTold, term_bytes}
 use Rattle.calls.proofs.RowBytes.{row_written, row_refits}
-use Rattle.calls.proofs.OneMore.{map_push, last_or_before, no_front}
+use Rattle.meaning.proofs.Lookups.{last_or_before}
+use Rattle.calls.proofs.OneMore.{map_push, no_front}
 use Rattle.calls.proofs.Enough.{term_kept}
 use Rattle.calls.proofs.Filled.{codes_in, rows_in, plain_rows, names_in, no_constraints}
 use Rattle.calls.proofs.Granted.{granted}
@@ -34,7 +35,7 @@ rows_more :
     row_ok rows n (length rows) r ≡ true →
     (t : ℕ) (x : TermRow) → get_elem? (rows ++ (r ∷ [])) t ≡ some x →
     row_ok (take t (rows ++ (r ∷ []))) n t x ≡ true
-rows_more rows r n old new t x e = go (last_or_before rows r x t e)
+rows_more rows r n old new t x e = go (last_or_before rows r t x e)
   where
     go :
         (get_elem? rows t ≡ some x) ⊎ ((t ≡ length rows) × (r ≡ x)) →

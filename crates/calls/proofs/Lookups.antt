@@ -1,8 +1,9 @@
 -- Entries of lists: of mapped lists (`unmap`, `remap`), by default (`got`, `there`), by either option type.
-use Rattle.std.proofs.Common.{◌≡◌, ℕ, zero, suc, ◌<◌, List, [], ◌∷◌, ◌++◌, map, length, get_or, Some, refl, ap, subst, arith}
+use Rattle.std.proofs.Common.{◌≡◌, ℕ, zero, suc, ◌<◌, List, [], ◌∷◌, map, length, get_or, Some, refl, ap, arith}
 use mathlib.Core.Option.{some, some-injective}
 use lib.ListN.{get_elem?}
-use Rattle.std.specs.List.{AllByRecursion, slice_get}
+use Rattle.std.specs.List.{slice_get}
+pub use Rattle.meaning.proofs.Lookups.{below, ahead, all_at}
 
 -- an entry of a mapped list comes from an entry
 pub unmap :
@@ -40,26 +41,6 @@ pub there_at : {X : Type 0} (l : List X) (i : ℕ) (d : X) → i < length l → 
 there_at [] i d h = absurd (omega arith)
 there_at (x ∷ l) zero d h = refl
 there_at (x ∷ l) (suc i) d h = there_at l i d (omega arith)
-
--- an entry that is there is below the length
-pub below : {X : Type 0} (l : List X) (i : ℕ) (x : X) → get_elem? l i ≡ some x → i < length l
-below [] i x e = absurd cc
-below (y ∷ l) zero x e = omega arith
-below (y ∷ l) (suc i) x e = let h = below l i x e in omega arith
-
--- an entry is still there before more entries
-pub ahead :
-    {X : Type 0} (l more : List X) (i : ℕ) (x : X) → get_elem? l i ≡ some x → get_elem? (l ++ more) i ≡ some x
-ahead [] more i x e = absurd cc
-ahead (y ∷ l) more zero x e = e
-ahead (y ∷ l) more (suc i) x e = ahead l more i x e
-
--- what holds of all entries holds of one that is there
-pub all_at :
-    {X : Type 0} (Q : X → Type 0) (l : List X) (i : ℕ) (x : X) → AllByRecursion Q l → get_elem? l i ≡ some x → Q x
-all_at Q [] i x h e = absurd cc
-all_at Q (y ∷ l) zero x h e = subst Q (some-injective _ _ e) h.0
-all_at Q (y ∷ l) (suc i) x h e = all_at Q l i x h.1 e
 
 -- the two option types say the same
 pub to_nth : {X : Type 0} (l : List X) (i : ℕ) (x : X) → get_elem? l i ≡ some x → slice_get l i ≡ Some x

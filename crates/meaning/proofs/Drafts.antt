@@ -1,23 +1,10 @@
 -- A sheet that is full stays full as its rows come in: `full_fresh`, `full_code`, `full_row`, `full_constraint`.
-use Rattle.std.proofs.Common.{◌≡◌, ℕ, zero, suc, ◌+◌, ◌<◌, ◌≤◌, ◌⊎◌, List, [], ◌∷◌, ◌++◌, length, sym, refl, ap, subst, inl, inr, ⊎_elim, arith, length-append}
-use mathlib.Core.Option.{some, some-injective}
-use lib.ListN.{get_elem?}
+use Rattle.std.proofs.Common.{◌≡◌, ℕ, ◌+◌, ◌<◌, ◌≤◌, List, [], ◌∷◌, ◌++◌, length, sym, subst, ⊎_elim, arith, length-append}
 use Rattle.std.proofs.ByRecursion.{All-append, All-weaker}
-use Rattle.meaning.specs.Terms.{Op, variable, empty, single, union, inter, diff, transp, prod, join, closure, Row, Form, member, equal, same, Fact, Sheet, names, Arity, Before, OpFits, FormFits, Full}
+use Rattle.meaning.specs.Terms.{Op, single, union, inter, diff, transp, prod, join, closure, Row, Form, member, equal, same, Fact, Sheet, names, Arity, Before, OpFits, FormFits, Full}
 use Rattle.meaning.specs.Mixes.{Header, fresh, with_code, with_row, with_constraint}
+use Rattle.meaning.proofs.Lookups.{ahead, last_or_before}
 use Rattle.meaning.proofs.RuleFits.{form_up}
-
--- what is found in a list is found in a longer one, and what is found there was there before or is new
-pub found_more : {X : Type 0} (l m : List X) (i : ℕ) (x : X) → get_elem? l i ≡ some x → get_elem? (l ++ m) i ≡ some x
-found_more [] m i x h = absurd cc
-found_more (y ∷ l) m zero x h = h
-found_more (y ∷ l) m (suc i) x h = found_more l m i x h
-
-pub found_last : {X : Type 0} (l : List X) (y : X) (i : ℕ) (x : X) → get_elem? (l ++ (y ∷ [])) i ≡ some x → (get_elem? l i ≡ some x) ⊎ ((i ≡ length l) × (y ≡ x))
-found_last [] y zero x h = inr (refl, some-injective _ _ h)
-found_last [] y (suc i) x h = absurd cc
-found_last (z ∷ l) y zero x h = inl h
-found_last (z ∷ l) y (suc i) x h = ⊎_elim (λ p. inl p) (λ p. inr (ap suc p.0, p.1)) (found_last l y i x h)
 
 -- rows and constraints still fit when another name or another row comes in
 pub op_up : (rs : List Row) (n m : ℕ) → n ≤ m → (t k : ℕ) (o : Op) → OpFits rs n t k o → OpFits rs m t k o
@@ -26,7 +13,7 @@ op_up rs n m l t k _ f = f
 
 module _ (rs ms : List Row) where
   arity_more : (t k : ℕ) → Arity rs t k → Arity (rs ++ ms) t k
-  arity_more t k a = record { op = a.op; row = found_more rs ms t _ a.row }
+  arity_more t k a = record { op = a.op; row = ahead rs ms t _ a.row }
 
   before_more : (t s k : ℕ) → Before rs t s k → Before (rs ++ ms) t s k
   before_more t s k b = (b.0, arity_more s k b.1)
@@ -59,7 +46,7 @@ full_code S c f =
 
 pub full_row : (S : Sheet) (r : Row) → Full S → OpFits S.rows (names S) (length S.rows) r.arity r.op → Full (with_row S r)
 full_row S r f h = record {
-  rows_fit = λ t o k q. ⊎_elim (λ p. more t k o (f.rows_fit t o k p)) (λ p. last t o k p.0 p.1) (found_last S.rows r t _ q);
+  rows_fit = λ t o k q. ⊎_elim (λ p. more t k o (f.rows_fit t o k p)) (λ p. last t o k p.0 p.1) (last_or_before S.rows r t _ q);
   constraints_fit = All-weaker (λ (x : Fact). FormFits S.rows (names S) x.form) (λ (x : Fact). FormFits (S.rows ++ (r ∷ [])) (names S) x.form) (λ x. form_more S.rows (r ∷ []) (names S) x.form) S.constraints f.constraints_fit;
 }
   where

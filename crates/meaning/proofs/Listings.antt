@@ -5,7 +5,7 @@ use mathlib.Core.List.{Memᴰ as Mem}
 use mathlib.Core.Option.{Option}
 use lib.ListN.{get_elem?}
 use Rattle.std.proofs.lemmas.Bool.{eqb-true, eq-eqb}
-use Rattle.meaning.specs.Terms.{Form, member, equal, same, Fact, Sheet}
+use Rattle.meaning.specs.Terms.{Form, member, Fact, Sheet}
 use Rattle.meaning.specs.Meaning.{Thing, Interp}
 use Rattle.meaning.specs.Model.{rep, thing, on_term, tuples, row_is_variable, held, Listed}
 use Rattle.meaning.specs.Text.{Line, opened, name, inside}

@@ -8,7 +8,7 @@ use Rattle.meaning.specs.Meaning.{Satisfies}
 use Rattle.meaning.specs.Calculus.{Alt, Branch, extend, Fork, State, running, closed, enter, apply, Step, Run, start}
 use Rattle.meaning.specs.Calculus
 use Rattle.meaning.specs.Model.{Lawful, Named}
-use Rattle.meaning.specs.Mixes.{most_sheet_names, most_terms, most_constraints, most_names, most_facts, most_forks, most_records, code, Header, Made, Draft, fresh, Verdict, undecided, CLOSED, OPEN, Trial, verdict_at, counted, Stage, filling, trying, settled, Call, add, seal, step, settle, Grants, label_row, term_row, constraint_row, full_sheet, rule_step, model_step, verdict_there, denied_at, Goes, granted, denied, Mix, end, next}
+use Rattle.meaning.specs.Mixes.{most_sheet_names, most_terms, most_constraints, most_names, most_facts, most_forks, most_records, code, Header, Made, Draft, fresh, Verdict, undecided, CLOSED, OPEN, Trial, verdict_at, counted, Stage, filling, trying, settled, Call, step, Grants, label_row, term_row, constraint_row, full_sheet, rule_step, model_step, verdict_there, denied_at, Goes, granted, denied, Mix, end, next}
 use Rattle.meaning.specs.Law.{Reaches}
 use Rattle.meaning.proofs.Drafts.{full_fresh, full_code, full_row, full_constraint}
 

@@ -1,25 +1,21 @@
 -- Lawful representatives list an interpretation, and it satisfies what holds by name: `models`; so for every meaning that agrees on which labels are the same: `agrees`.
-use Rattle.std.proofs.Common.{◌≡◌, ℕ, zero, suc, ◌<◌, ◌≤◌, Bool, true, false, cond, T, eqb, List, [], ◌∷◌, map, length, sym, refl, ap, ◌∙◌, subst, ap₂, ⊎_elim, arith, eqb→eq}
+use Rattle.std.proofs.Common.{◌≡◌, ℕ, ◌<◌, ◌≤◌, Bool, true, false, cond, T, eqb, List, [], ◌∷◌, map, length, sym, refl, ap, ◌∙◌, subst, ap₂, ⊎_elim, arith, eqb→eq}
 use mathlib.Core.HLevel.{Σ_prop_path, hedberg}
 use mathlib.Core.List.Memᴰ
 use mathlib.Core.List.{map-map, Memᴰ as Mem}
-use mathlib.Core.Option.{Option, none}
+use mathlib.Core.Option.{Option}
 use native.Mathlib.Decide.{dec_lt, ℕ_discrete}
 use lib.ListN.{get_elem?, length-map}
 use Rattle.std.specs.List.{AllByRecursion}
 use Rattle.std.proofs.lemmas.List.{get_or_past}
-use Rattle.meaning.specs.Terms.{variable, Row, Form, member, equal, same, Fact, Sheet, Arity, Full, FormFits}
+use Rattle.meaning.specs.Terms.{variable, Row, Form, member, Fact, Sheet, Arity, Full, FormFits}
 use Rattle.meaning.specs.Meaning.{Thing, labelled, unlabelled, Interp, SatFact, Bears, Reads, Satisfies, Satisfiable}
 use Rattle.meaning.specs.Calculus.{Branch, Fork, running, Run, start}
 use Rattle.meaning.specs.Model.{rep, Lawful, valued, coded, thing, on_term, tuples, row_is_variable, held, Named, Listed, Alike}
+use Rattle.meaning.proofs.Lookups.{past}
 use Rattle.meaning.proofs.RuleFits.{one_arity}
 use Rattle.meaning.proofs.Moved.{move, sat_moved}
 use Rattle.meaning.proofs.Sound.{run_neat, start_neat}
-
-past : {X : Type 0} (l : List X) (i : ℕ) → length l ≤ i → get_elem? l i ≡ none
-past [] i h = refl
-past (x ∷ l) zero h = absurd (omega arith)
-past (x ∷ l) (suc i) h = past l i (omega arith)
 
 maps : {A B C : Type 0} (g : B → C) (h : A → B) (l : List (List A)) → map (map g) (map (map h) l) ≡ map (map (λ x. g (h x))) l
 maps g h [] = refl

@@ -1,14 +1,15 @@
 -- Each rule keeps an interpretation: where it satisfies the cited facts, some alternative is satisfied once the fresh names are given things: `rule_sound`.
-use Rattle.std.proofs.Common.{◌≡◌, ℕ, zero, suc, ◌+◌, ◌<◌, ◌≤◌, ◌⊎◌, List, [], ◌∷◌, ◌++◌, map, reverse, length, sym, refl, ap, ◌∙◌, subst, ap₂, inl, inr, ⊎_elim, arith, length-append}
+use Rattle.std.proofs.Common.{◌≡◌, ℕ, ◌+◌, ◌<◌, ◌≤◌, ◌⊎◌, List, [], ◌∷◌, ◌++◌, map, reverse, length, sym, refl, ap, ◌∙◌, subst, ap₂, inl, inr, ⊎_elim, arith, length-append}
 use mathlib.Core.List.{reverse-reverse, head-eq_of_cons-eq, tail-eq_of_cons-eq}
 use mathlib.Core.Option.{Option, some, some-injective}
 use native.Mathlib.Decide.{ℕ_discrete}
-use lib.ListN.{get_elem?, length-map}
+use lib.ListN.{length-map}
 use Rattle.std.specs.List.{AllByRecursion}
 use Rattle.std.proofs.lemmas.List.{map-append}
 use Rattle.meaning.specs.Terms.{Op, closure, node, term, member, equal, same, Fact, pos, neg, Sheet, names, Is, Arity, OpFits, Full}
 use Rattle.meaning.specs.Meaning.{Thing, Thing-discrete, labelled, Chain, one, Interp, In, Value, SatFact, Bears, Reads}
 use Rattle.meaning.specs.Calculus.{Alt, Rule, inter_up, inter_down, union_up, union_down, diff_up, diff_down, single_up, single_down, empty_unsat, set_diseq, eq_unsat_names, eq_unsat_terms, eq_unsat_both, transp_up, transp_down, join_up, join_down, prod_up, prod_down, tclos_up_one, tclos_up_two, tclos_down, sym_names, sym_terms, swap_name_member, swap_name_left, swap_name_right, swap_term_member, swap_term_left, swap_term_right, label_unsat, label_same, up_from, equalities}
+use Rattle.meaning.proofs.Lookups.{below}
 use Rattle.meaning.proofs.Lengths.{opened, shut, value_length}
 use Rattle.meaning.specs.Chains.{chain_append, Shape, pair, two, long, shape}
 use Rattle.meaning.specs.Finite.{in_dec, differ}
@@ -41,11 +42,6 @@ pair_of _ h = absurd (omega arith)
 put_first : {A : Type 0} (e : ℕ → A) (n : ℕ) (m : A) (u : List A) → put e n (m ∷ u) n ≡ m
 put_first e n m u = let z : n + 0 ≡ n = omega arith in ap (put e n (m ∷ u)) (sym z) ∙ put_new e n (m ∷ u) 0 m (omega arith)
 
-pub bound : {X : Type 0} (l : List X) (i : ℕ) (c : X) → get_elem? l i ≡ some c → i < length l
-bound [] i c h = absurd cc
-bound (x ∷ l) zero c h = omega arith
-bound (x ∷ l) (suc i) c h = let q = bound l i c h in omega arith
-
 module _ (K : ℕ → Option ℕ) (S : Sheet) (full : Full S) (I : Interp Thing) (reads : Reads K S I) where
   open' : {t : ℕ} {o : Op} → Is S.rows t o → (u : List Thing) → Value S.rows I t u → In I (node t o (term S.rows)) u
   open' {t} {o} is u v = opened S.rows (names S) full.rows_fit I t o is.arity is.row u v
@@ -69,13 +65,13 @@ module _ (K : ℕ → Option ℕ) (S : Sheet) (full : Full S) (I : Interp Thing)
 
   label_of : {a x : ℕ} → Bears K S a x → I.name a ≡ labelled x
   label_of {a} {x} b =
-      let r = reads.labels a (bound S.codes a b.0 b.1) in
+      let r = reads.labels a (below S.codes a b.0 b.1) in
       let c : some r.1.0 ≡ some b.0 = sym r.1.1 ∙ b.1 in
       let k : K r.1.0 ≡ K b.0 = ap K (some-injective _ _ c) in
       r.2 ∙ ap labelled (some-injective _ _ (sym r.1.2 ∙ k ∙ b.2))
 
   label_low : {a x : ℕ} → Bears K S a x → a < names S
-  label_low {a} b = let h = bound S.codes a b.0 b.1 in omega arith
+  label_low {a} b = let h = below S.codes a b.0 b.1 in omega arith
 
   equalities_hold : (e : ℕ → Thing) (u v : List ℕ) → map e u ≡ map e v → AllByRecursion (SatFact S.rows I e) (equalities u v)
   equalities_hold e [] v h = tt
