@@ -4,7 +4,8 @@ use Rattle.std.proofs.lemmas.Bool.{and_from, and_parts}
 use mathlib.Core.Option.{Option}
 use borrow.Author.Tests.{both_ways}
 use Rattle.std.specs.List.{AllByRecursion}
-use Rattle.std.proofs.lemmas.List.{take_more_set}
+use Rattle.std.proofs.ByRecursion.{All-append}
+use Rattle.std.proofs.lemmas.List.{take_more_set, map_push}
 use Rattle.records.specs.declared.rows.Fact.{Fact as FactRow}
 use Rattle.records.specs.declared.rows.TermRow.{TermRow}
 use Rattle.records.specs.declared.rows.ConstraintRow.{ConstraintRow}
@@ -24,7 +25,6 @@ use Rattle.records.specs.Reading.{fact_said}
 use Rattle.calls.specs.Views.{Orderly, plain_in, read_draft}
 use Rattle.calls.proofs.Bytes.{RowTold, constraint_bytes}
 use Rattle.calls.proofs.FactBytes.{said_by, fact_written, said_back, said_again, sign_low, fact_refits}
-use Rattle.calls.proofs.OneMore.{map_push, all_push}
 use Rattle.calls.proofs.Enough.{fact_kept}
 use Rattle.calls.proofs.Filled.{codes_in, rows_in, constraints_in, names_in}
 use Rattle.calls.proofs.Granted.{granted}
@@ -82,7 +82,7 @@ module _ (K : ℕ → Option ℕ) (f : Filling) (h : Held) (o : Orderly f h) (bs
         rows = o.passed.rows;
         constraints =
             subst (AllByRecursion (λ (x : FactRow). fact_ok rows (names (read_sheet (plain_in f h))) x ≡ true)) (sym (more w l))
-            (all_push _ (take f.constraints_in h.facts) w o.passed.constraints e);
+            (All-append _ (take f.constraints_in h.facts) (w ∷ []) o.passed.constraints (e, tt));
       }
 
   orderly :

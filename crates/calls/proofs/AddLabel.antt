@@ -14,7 +14,6 @@ use Rattle.calls.specs.Stores.{Held, with_labels}
 use Rattle.calls.specs.Sheets.{Filling, one_label, label_added, row_added, not_added}
 use Rattle.calls.specs.Views.{Orderly, plain_in, read_draft}
 use Rattle.calls.proofs.Bytes.{RowTold}
-use Rattle.calls.proofs.OneMore.{no_front}
 use Rattle.calls.proofs.Enough.{label_kept}
 use Rattle.calls.proofs.Filled.{none_passed, codes_in, no_terms, no_constraints_yet}
 use Rattle.calls.proofs.AddCases.{Exactly, refused}
@@ -72,8 +71,8 @@ module _ (K : ℕ → Option ℕ) (f : Filling) (h : Held) (o : Orderly f h) (bs
         labels_first = λ m. absurd (omega arith);
         terms_first = λ m. absurd (omega arith);
         passed =
-            none_passed (plain_in (one_label f) (stored c)) (no_front f.terms_in h.terms et)
-            (no_front f.constraints_in h.facts ec);
+            none_passed (plain_in (one_label f) (stored c)) (ap (λ (k : ℕ). take k h.terms) et)
+            (ap (λ (k : ℕ). take k h.facts) ec);
       }
 
   -- the subject grants it

@@ -3,7 +3,7 @@ use Rattle.std.proofs.Common.{◌≡◌, ℕ, ◌+◌, ◌<◌, ◌≤◌, Bool,
 use mathlib.Core.Option.{Option, some}
 use borrow.Author.Tests.{both_ways}
 use lib.ListN.{get_elem?}
-use Rattle.std.proofs.lemmas.List.{take_more_set, take_at, take-append-le}
+use Rattle.std.proofs.lemmas.List.{map_push, take_more_set, take_at, take-append-le}
 use Rattle.records.specs.declared.rows.TermRow.{TermRow}
 use Rattle.records.specs.declared.refusal.Refusal.TheVariants.{NotDue, IllTerm}
 use Rattle.std.specs.declared.option.Option.TheVariants as option
@@ -22,7 +22,6 @@ use Rattle.calls.proofs.Lookups.{below}
 use Rattle.calls.proofs.Bytes.{RowTold, term_bytes}
 use Rattle.calls.proofs.RowBytes.{row_written, row_refits}
 use Rattle.meaning.proofs.Lookups.{last_or_before}
-use Rattle.calls.proofs.OneMore.{map_push, no_front}
 use Rattle.calls.proofs.Enough.{term_kept}
 use Rattle.calls.proofs.Filled.{codes_in, rows_in, plain_rows, names_in, no_constraints}
 use Rattle.calls.proofs.Granted.{granted}
@@ -67,7 +66,7 @@ module _ (K : ℕ → Option ℕ) (f : Filling) (h : Held) (o : Orderly f h) (bs
 
   -- there are no constraints yet, so that none is read anew
   none_yet : f.terms_in < f.terms → take f.constraints_in h.facts ≡ []
-  none_yet l = no_front f.constraints_in h.facts (no_constraints f h o l)
+  none_yet l = ap (λ (k : ℕ). take k h.facts) (no_constraints f h o l)
 
   read_none :
       f.terms_in < f.terms → (rows rows' : List TermRow) →

@@ -3,6 +3,7 @@ use Rattle.std.proofs.Common.{◌≡◌, ℕ, suc, ◌+◌, ◌-◌, ◌≤◌, 
 use Rattle.std.proofs.lemmas.Bool.{and_from, or_left, or_right}
 use mathlib.Core.Option.{Option}
 use Rattle.std.specs.List.{AllByRecursion}
+use Rattle.std.proofs.lemmas.List.{append-nil}
 use Rattle.records.specs.declared.rows.Fact.{Fact as FactRow}
 use Rattle.records.specs.declared.rows.TermRow.{TermRow}
 use Rattle.records.specs.declared.rule.Rule.{Rule as RuleName}
@@ -27,7 +28,7 @@ use Rattle.calls.specs.Reading.{names_of, write_op, write_alt, Plain, read_sheet
 use Rattle.calls.specs.Passing.{cites_p, cites_q, alt_rows, Passes, first_of, second_of, Twice}
 use Rattle.meaning.proofs.RuleFits.{Fits, of, both, fit}
 use Rattle.calls.proofs.Truth.{eqb_self}
-use Rattle.calls.proofs.Tuples.{reversed_is, joined_is, append_nil, rest_is, at_is, put_is, fresh_is}
+use Rattle.calls.proofs.Tuples.{reversed_is, joined_is, rest_is, at_is, put_is, fresh_is}
 use Rattle.calls.proofs.Forms.{facts_self}
 use Rattle.calls.proofs.Labels.{labels_apart, labels_alike, borne}
 use Rattle.calls.proofs.Rows.{row_of, arity_of, arity_low, full}
@@ -210,14 +211,14 @@ module _ (K : ℕ → Option ℕ) (P : Plain) (good : Good P) where
       let l = arity_low P good b.0.0 in
       let e =
       ap₂ (λ (i : ℕ) (x : List ℕ). joined i (names_of x) (names_of v)) (arity_of P b.0.0)
-      (sym (append_nil u))
+      (sym (append-nil u))
       ∙ joined_is u [] v l.1 in
       pass R.ProdUp n o refl refl _ _ t 0 refl refl refl (row_of P good is) refl (simp eqb_self)
       (single_alt true t e)
   complete {n} (prod_down u v {s = s} {r = r} {t = t} is ar) b o h =
       let l = arity_low P good ar in
       let l' = arity_low P good b.0.0 in
-      let ej = joined_is u v [] l.1 ∙ ap names_of (append_nil u) in
+      let ej = joined_is u v [] l.1 ∙ ap names_of (append-nil u) in
       let er = rest_is u v (omega (arith, length-append u v)) in
       pass R.ProdDown n o refl refl _ _ 0 0 refl refl (row_of P good is) refl (left_of is refl ar) refl
       (ap₂ (λ (x y : Tuple). two_of 0 (in_fact true x s) (in_fact true y r) ∷ []) ej er)

@@ -2,6 +2,7 @@
 use Rattle.std.proofs.Common.{◌≡◌, ℕ, zero, suc, ◌+◌, ◌<◌, ◌≤◌, Bool, true, false, cond, eqb, ltb, leb, List, [], ◌∷◌, length, get_or, sym, refl, ◌∙◌, subst, ap₂, arith, ltb-false, ltb-true, lt-ltb, eq-eqb, le-leb}
 use Rattle.std.proofs.lemmas.Bool.{and_from}
 use Rattle.std.specs.List.{AllByRecursion}
+use Rattle.std.proofs.lemmas.List.{get_or_past}
 use Rattle.records.specs.declared.rows.Fact.{Fact as FactRow}
 use Rattle.records.specs.declared.rows.TermRow.{TermRow}
 use Rattle.records.specs.Tuples as tuple
@@ -13,7 +14,6 @@ use Rattle.calls.specs.Reading.{names_of, read_row, read_form, write_form, row_o
 use Rattle.calls.specs.Reading.{RowFits, FactFits}
 use Rattle.calls.specs.Tests.{place_ok, places, in_tests, same_tests, alike_tests, fact_ok, row_tests, row_ok}
 use Rattle.calls.proofs.Truth.{all_hold}
-use Rattle.calls.proofs.Tuples.{past}
 use Rattle.calls.proofs.Rows.{arity_of, term_below}
 
 -- an element of a list of numbers below n
@@ -29,7 +29,7 @@ place_holds n k u i e h = go (ltb i k) refl
   where
     go : (b : Bool) → ltb i k ≡ b → cond b (ltb (get_or u i 0) n) (eqb (get_or u i 0) 0) ≡ true
     go true q = let l = ltb-true i k q in lt-ltb (get_or u i 0) n (under n u i h (omega arith))
-    go false q = let l = ltb-false i k q in eq-eqb (get_or u i 0) 0 (past u i (omega arith))
+    go false q = let l = ltb-false i k q in eq-eqb (get_or u i 0) 0 (get_or_past u i 0 (omega arith))
 
 places_hold :
     (n k : ℕ) (u : List ℕ) → length u ≡ k → AllByRecursion (λ e. e < n) u → AllByRecursion (λ b. b ≡ true) (places n k (names_of u))

@@ -1,6 +1,6 @@
 -- What writes leave in the counted fronts of the stores: the facts of an alternative come after the front that
 -- they are written to (`put_front`, `put_below`), and the last of a front is split off it (`last_split`).
-use Rattle.std.proofs.Common.{◌≡◌, ℕ, zero, suc, ◌+◌, ◌-◌, ◌<◌, ◌≤◌, Bool, true, false, cond, eqb, List, [], ◌∷◌, ◌++◌, length, take, set, Some, None, sym, refl, ap, ◌∙◌, ap₂, arith, length-set, length-take}
+use Rattle.std.proofs.Common.{◌≡◌, ℕ, zero, suc, ◌+◌, ◌-◌, ◌<◌, ◌≤◌, Bool, true, false, cond, eqb, List, [], ◌∷◌, ◌++◌, length, take, set, Some, None, sym, refl, ap, ◌∙◌, arith, length-set, length-take}
 use Rattle.std.specs.List.{slice_get}
 use Rattle.std.proofs.lemmas.List.{append-nil, append_assoc, take_more_set, take-take, take-append-le}
 use Rattle.records.specs.declared.rows.Fact.{Fact as FactRow}
@@ -27,12 +27,6 @@ nth_front (x ∷ xs) (suc k) (suc i) h = nth_front xs k i (omega arith)
 pub nth_cut :
     {X : Type 0} (xs ys : List X) (m i : ℕ) → i < m → take m xs ≡ take m ys → slice_get xs i ≡ slice_get ys i
 nth_cut xs ys m i l e = sym (nth_front xs m i l) ∙ ap (λ (z : List _). slice_get z i) e ∙ nth_front ys m i l
-
--- an entry that is there is below the length
-pub nth_low : {X : Type 0} (xs : List X) (i : ℕ) (x : X) → slice_get xs i ≡ Some x → i < length xs
-nth_low [] i x e = absurd cc
-nth_low (y ∷ xs) zero x e = omega arith
-nth_low (y ∷ xs) (suc i) x e = let h = nth_low xs i x e in omega arith
 
 -- the last of a front
 pub last_split :
@@ -71,19 +65,6 @@ pub has_last : {X : Type 0} (k : ℕ) (xs : List X) (x : X) → slice_get (take 
 has_last zero [] x e = absurd cc
 has_last zero (y ∷ xs) x e = absurd cc
 has_last (suc k) xs x e = omega arith
-
--- a list ends in one way
-pub snoc_same :
-    {X : Type 0} (a b : List X) (x y : X) → a ++ (x ∷ []) ≡ b ++ (y ∷ []) → (a ≡ b) × (x ≡ y)
-snoc_same [] [] x y e = (refl, cc)
-snoc_same [] (z ∷ []) x y e = absurd (let q = ap length e in omega arith)
-snoc_same [] (z ∷ w ∷ b) x y e = absurd (let q = ap length e in omega arith)
-snoc_same (z ∷ []) [] x y e = absurd (let q = ap length e in omega arith)
-snoc_same (z ∷ w ∷ a) [] x y e = absurd (let q = ap length e in omega arith)
-snoc_same (z ∷ a) (w ∷ b) x y e =
-    let t : a ++ (x ∷ []) ≡ b ++ (y ∷ []) = cc in
-    let hd : z ≡ w = cc in
-    let r = snoc_same a b x y t in (ap₂ ◌∷◌ hd r.0, r.1)
 
 -- ── an alternative written ─────────────────────────────────────────────────
 

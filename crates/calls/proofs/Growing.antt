@@ -5,6 +5,7 @@ use mathlib.Core.Option.{Option}
 use Rattle.std.specs.List.{AllByRecursion, slice_get}
 use Rattle.std.proofs.lemmas.Bool.{both_ways, eqb-false}
 use Rattle.std.proofs.lemmas.List.{take_more_set}
+use Rattle.std.proofs.lemmas.Option.{slice_get_within}
 use Rattle.records.specs.declared.rows.Step.{Step}
 use Rattle.records.specs.declared.refusal.Refusal.{Refusal}
 use Rattle.records.specs.declared.refusal.Refusal.TheVariants.{NoRoom}
@@ -29,7 +30,7 @@ use Rattle.calls.specs.Trials.{plain_of, branch_of}
 use Rattle.calls.specs.Views.{Whole}
 use Rattle.calls.proofs.Bridge.{bridged}
 use Rattle.calls.proofs.Fitting.{room_told, sized}
-use Rattle.calls.proofs.Fronts.{nth_low, put_front, put_length, put_below}
+use Rattle.calls.proofs.Fronts.{put_front, put_length, put_below}
 use Rattle.calls.proofs.Forks.{all_at_number}
 use Rattle.calls.proofs.Forking.{again, forking, made}
 use Rattle.calls.proofs.Landings.{adds_land, forks_land}
@@ -114,7 +115,7 @@ module _
       let there : slice_get (branch_facts t h) x.p ≡ Some m.0 =
       subst (λ (z : Bool). looked z (branch_facts t h) x.p ≡ Some m.0) two.0 m.2 in
       let low : x.p < t.facts =
-      subst (λ (k : ℕ). x.p < k) (facts_long t h w un room) (nth_low (branch_facts t h) x.p m.0 there) in
+      subst (λ (k : ℕ). x.p < k) (facts_long t h w un room) (slice_get_within (branch_facts t h) x.p m.0 there) in
       let each :
       (i : ℕ) →
       alternative_of y.rule y.cited t.names i

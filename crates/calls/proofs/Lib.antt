@@ -29,7 +29,6 @@ pub mod Listed
 pub mod Vectors
 pub mod Runs
 pub mod Bytes
-pub mod OneMore
 pub mod Enough
 pub mod Filled
 pub mod MakeExact

@@ -3,7 +3,7 @@ use Rattle.std.proofs.Common.{◌≡◌, ℕ, zero, suc, ◌<◌, List, [], ◌�
 use mathlib.Core.Option.{some, some-injective}
 use lib.ListN.{get_elem?}
 use Rattle.std.specs.List.{slice_get}
-pub use Rattle.meaning.proofs.Lookups.{below, ahead, all_at}
+pub use Rattle.meaning.proofs.Lookups.{below, all_at}
 
 -- an entry of a mapped list comes from an entry
 pub unmap :

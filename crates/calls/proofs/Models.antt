@@ -15,24 +15,20 @@ use Rattle.calls.proofs.Lawful.{lawful_exact}
 use Rattle.calls.proofs.Few.{few_exact}
 use Rattle.calls.proofs.Satisfied.{satisfies_exact}
 
--- a refusal does not grant
-not_ok : {X : Type 0} {r : Refusal} → ◌≡◌ {A = Result (Unit {0}) Refusal} (Err r) (Ok tt) → X
-not_ok e = absurd cc
-
 -- granted after a test: the test passed, and what follows grants
 granted_after : (t : Bool) (x : Result (Unit {0}) Refusal) (r : Refusal) →
     cond t x (Err r) ≡ Ok tt → (t ≡ true) × (x ≡ Ok tt)
 granted_after true x r h = (refl, h)
-granted_after false x r h = not_ok h
+granted_after false x r h = absurd cc
 
 -- what a grant says of the first false constraint, and of the first unlawful name
 constraints_grant : (o : Option ℕ) → on_constraints o ≡ Ok tt → o ≡ none
 constraints_grant none h = refl
-constraints_grant (some k) h = not_ok h
+constraints_grant (some k) h = absurd cc
 
 names_grant : (S : Sheet) (I : Interp ℕ) (o : Option ℕ) → on_names S I o ≡ Ok tt →
     (o ≡ none) × (leb (tuples_in S I) most_tuples ≡ true) × (first_false S I S.constraints 0 ≡ none)
-names_grant S I (some e) h = not_ok h
+names_grant S I (some e) h = absurd cc
 names_grant S I none h =
     let r = granted_after (leb (tuples_in S I) most_tuples)
     (on_constraints (first_false S I S.constraints 0)) TuplesOver h in

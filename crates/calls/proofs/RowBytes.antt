@@ -8,6 +8,7 @@ use Rattle.meaning.specs.Mixes.{op_code, operands, row_bytes}
 use Rattle.meaning.specs.Mixes as subject
 use Rattle.calls.specs.Reading.{four, read_row, write_op, write_row, Plain, read_sheet, RowFits}
 use Rattle.calls.proofs.Bytes.{term_bytes}
+use Rattle.calls.proofs.Written.{took}
 
 -- four bytes are the first four of the list, zero where there are none
 pub four_are : (u : List ℕ) → subject.four u ≡ four (get_or u 0 0) (get_or u 1 0) (get_or u 2 0) (get_or u 3 0)
@@ -38,16 +39,7 @@ taken :
     (k : ℕ) (v : List ℕ) → length v ≡ k → k ≤ 4 →
     take k (four (get_or v 0 0) (get_or v 1 0) (get_or v 2 0) (get_or v 3 0)) ≡ v
 taken k v e l =
-    ap (λ (j : ℕ). take j (four (get_or v 0 0) (get_or v 1 0) (get_or v 2 0) (get_or v 3 0))) (sym e) ∙ go v (omega arith)
-  where
-    go :
-        (v : List ℕ) → length v ≤ 4 → take (length v) (four (get_or v 0 0) (get_or v 1 0) (get_or v 2 0) (get_or v 3 0)) ≡ v
-    go [] l = refl
-    go (x ∷ []) l = refl
-    go (x ∷ y ∷ []) l = refl
-    go (x ∷ y ∷ z ∷ []) l = refl
-    go (x ∷ y ∷ z ∷ w ∷ []) l = refl
-    go (x ∷ y ∷ z ∷ w ∷ q ∷ v) l = absurd (omega arith)
+    ap (λ (j : ℕ). take j (four (get_or v 0 0) (get_or v 1 0) (get_or v 2 0) (get_or v 3 0))) (sym e) ∙ took v (omega arith)
 
 module _ (rs : List Row) (n t : ℕ) where
   -- a row that fits is read back from what is written of it

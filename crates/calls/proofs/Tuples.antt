@@ -1,16 +1,11 @@
 -- Tuples in four fields do what lists of names do: reversed (`reversed_is`), joined, split, changed.
 use Rattle.std.proofs.Common.{◌≡◌, ℕ, zero, suc, ◌+◌, ◌-◌, ◌<◌, ◌≤◌, List, [], ◌∷◌, ◌++◌, reverse, length, get_or, take, sym, refl, ap, arith}
+use Rattle.std.proofs.lemmas.List.{get_or_past}
 use Rattle.records.specs.Tuples as tuple
 use Rattle.records.specs.Tuples.{reversed, joined, rest_from, name_at, name_put, fresh_names, before_all}
 use Rattle.records.specs.Tuples.{pair_of}
 use Rattle.meaning.specs.Calculus.{up_from}
 use Rattle.calls.specs.Reading.{names_of, four}
-
--- past its end a list has the default
-pub past : (l : List ℕ) (i : ℕ) → length l ≤ i → get_or l i 0 ≡ 0
-past [] i h = refl
-past (x ∷ l) zero h = absurd (omega arith)
-past (x ∷ l) (suc i) h = past l i (omega arith)
 
 -- reversed
 pub reversed_is :
@@ -31,30 +26,26 @@ joined_is (x ∷ y ∷ z ∷ []) c v h = refl
 joined_is (x ∷ y ∷ z ∷ o ∷ []) c v h = refl
 joined_is _ c v h = absurd (omega arith)
 
-pub append_nil : (u : List ℕ) → u ++ [] ≡ u
-append_nil [] = refl
-append_nil (x ∷ u) = ap (λ (l : List ℕ). x ∷ l) (append_nil u)
-
 -- the names from a place on
 pub rest_is : (a b : List ℕ) → length a + length b ≤ 4 → rest_from (length a) (names_of (a ++ b)) ≡ names_of b
 rest_is [] b h = refl
 rest_is (x ∷ []) b h =
-    let e = sym (past b 3 (omega arith)) in
+    let e = sym (get_or_past b 3 0 (omega arith)) in
     λ i. tuple.names (get_or b 0 0) (get_or b 1 0) (get_or b 2 0) (e i)
 rest_is (x ∷ y ∷ []) b h =
-    let e = sym (past b 2 (omega arith)) in
-    let e' = sym (past b 3 (omega arith)) in
+    let e = sym (get_or_past b 2 0 (omega arith)) in
+    let e' = sym (get_or_past b 3 0 (omega arith)) in
     λ i. tuple.names (get_or b 0 0) (get_or b 1 0) (e i) (e' i)
 rest_is (x ∷ y ∷ z ∷ []) b h =
-    let e = sym (past b 1 (omega arith)) in
-    let e' = sym (past b 2 (omega arith)) in
-    let e'' = sym (past b 3 (omega arith)) in
+    let e = sym (get_or_past b 1 0 (omega arith)) in
+    let e' = sym (get_or_past b 2 0 (omega arith)) in
+    let e'' = sym (get_or_past b 3 0 (omega arith)) in
     λ i. tuple.names (get_or b 0 0) (e i) (e' i) (e'' i)
 rest_is (x ∷ y ∷ z ∷ v ∷ []) b h =
-    let e = sym (past b 0 (omega arith)) in
-    let e' = sym (past b 1 (omega arith)) in
-    let e'' = sym (past b 2 (omega arith)) in
-    let e''' = sym (past b 3 (omega arith)) in
+    let e = sym (get_or_past b 0 0 (omega arith)) in
+    let e' = sym (get_or_past b 1 0 (omega arith)) in
+    let e'' = sym (get_or_past b 2 0 (omega arith)) in
+    let e''' = sym (get_or_past b 3 0 (omega arith)) in
     λ i. tuple.names (e i) (e' i) (e'' i) (e''' i)
 rest_is _ b h = absurd (omega arith)
 

@@ -25,7 +25,7 @@ took (x ∷ []) h = refl
 took (x ∷ y ∷ []) h = refl
 took (x ∷ y ∷ z ∷ []) h = refl
 took (x ∷ y ∷ z ∷ v ∷ []) h = refl
-took (x ∷ y ∷ z ∷ v ∷ o ∷ u) h = absurd (omega arith)
+took _ h = absurd (omega arith)
 
 -- there are no more equalities than places
 few_equalities : (u v : List ℕ) → length (equalities u v) ≤ length u

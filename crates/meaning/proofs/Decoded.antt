@@ -1,6 +1,6 @@
 -- The tree of each row is made of the trees of its operands: `term_node`.
 use Rattle.std.proofs.Common.{◌≡◌, ℕ, zero, suc, ◌+◌, ◌<◌, List, [], ◌∷◌, ◌++◌, length, get_or, sym, refl, ◌∙◌, arith}
-use mathlib.Core.Option.{none, some, some-injective}
+use mathlib.Core.Option.{some-injective}
 use lib.ListN.{get_or-append}
 use Rattle.std.proofs.lemmas.List.{get_or_push, length_push}
 use Rattle.meaning.specs.Terms.{Op, variable, empty, single, union, inter, diff, transp, prod, join, closure, Row, Tm, Empty, Union, Inter, Diff, Transp, Prod, Join, Closure, node, trees, term, RowIs, OpFits}
@@ -50,10 +50,7 @@ trees_front done (r ∷ rs) i h =
 
 trees_at : (done : List Tm) (rs : List Row) (j n : ℕ) → n ≡ length done + j → (o : Op) (k : ℕ) → RowIs rs j o k → Smaller n o → get_or (trees done rs) n Empty ≡ node n o (λ i. get_or (trees done rs) i Empty)
 unfolding trees pushed
-trees_at done [] j n e o k h s = absurd (none_some h)
-  where
-    none_some : {X : Type 0} {x : X} → none ≡ some x → ⊥
-    none_some h = cc
+trees_at done [] j n e o k h s = absurd cc
 trees_at done (r ∷ rs) zero n e o k h s =
     let en : n ≡ length done = omega arith in
     let x : Tm = node (length done) r.op (λ i. get_or done i Empty) in

@@ -20,7 +20,7 @@ run_low : (n k m : ℕ) → n + k ≤ m → AllByRecursion (λ i. i < m) (up_fro
 run_low n zero m h = tt
 run_low n (suc k) m h = (omega arith, run_low (n + 1) k m (omega arith))
 
-run_length : (n k : ℕ) → length (up_from n k) ≡ k
+pub run_length : (n k : ℕ) → length (up_from n k) ≡ k
 run_length n zero = refl
 run_length n (suc k) = ap suc (run_length (n + 1) k)
 
