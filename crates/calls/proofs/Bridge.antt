@@ -31,10 +31,6 @@ use Rattle.calls.proofs.Written.{few, alts_back, alts_kept, facts_up}
 use Rattle.calls.proofs.Complete.{complete}
 use Rattle.calls.proofs.Found.{found}
 
--- two plans that are both the answer are one
-same_plan : (y z : Plan) → ◌≡◌ {A = Result Plan Refusal} (Ok y) (Ok z) → y ≡ z
-same_plan y z h = cc
-
 -- a field that is zero, by its test
 zero_when : (b : Bool) (p : ℕ) → b ≡ false → untouched b p ≡ true → p ≡ 0
 zero_when true p e h = absurd cc
@@ -261,7 +257,7 @@ module _ (K : ℕ → Option ℕ) (P : Plain) (good : Good P) where
     met_applies l x y h =
         let a = applies x y h in
         let m = met l x a.0 a.1 in
-        let e = sym m.2 ∙ ap (plan_alts P n) (same_plan m.0 y (sym m.1 ∙ h)) in
+        let e = sym m.2 ∙ ap (plan_alts P n) (cc (m.1, h)) in
         subst (λ (alts : List Alt). AppliesTo K P facts n x alts) e a.1
 
     one_list :
@@ -270,7 +266,7 @@ module _ (K : ℕ → Option ℕ) (P : Plain) (good : Good P) where
     one_list l x alts alts' a a' =
         let m = met l x alts a in
         let m' = met l x alts' a' in
-        sym m.2 ∙ ap (plan_alts P n) (same_plan m.0 m'.0 (sym m.1 ∙ m'.1)) ∙ m'.2
+        sym m.2 ∙ ap (plan_alts P n) (cc (m.1, m'.1)) ∙ m'.2
 
     -- each alternative leaves a branch that fits again
     stays_in :
@@ -294,7 +290,7 @@ module _ (K : ℕ → Option ℕ) (P : Plain) (good : Good P) where
     stays_fair l x y h =
         let a = applies x y h in
         let m = met l x a.0 a.1 in
-        let e = same_plan m.0 y (sym m.1 ∙ h) in
+        let e : m.0 ≡ y = cc (m.1, h) in
         stays_in l _ (subst (λ (z : Plan). Kept (alt_rows z.rule z.cited n)) e m.3)
 
 pub bridged : Bridged

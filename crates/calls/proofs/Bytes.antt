@@ -46,7 +46,7 @@ listed (suc k) [] e = absurd (omega arith)
 listed (suc k) (x ∷ bs) e = ap (λ (l : List ℕ). x ∷ l) (listed k bs (omega arith))
 
 -- a record with these letters and this length
-spelt :
+pub spelt :
     (k x y : ℕ) (bs : List ℕ) → whole (suc (suc k)) x y bs ≡ true →
     bs ≡ x ∷ y ∷ places k (λ i. byte bs (suc (suc i)))
 spelt k x y bs e =

@@ -1,6 +1,6 @@
 -- A model is granted exactly where the subject has a case for its bytes, given that its answer is right
 -- (`model_step_exact`); with that, every step is (`step_exact`).
-use Rattle.std.proofs.Common.{◌≡◌, ℕ, ◌+◌, ◌<◌, ◌≤◌, Bool, true, false, cond, eqb, leb, ◌⊎◌, ◌↔◌, List, ◌∷◌, length, drop, Ok, Err, Result, sym, refl, ap, ◌∙◌, subst, inl, inr, arith, length-append, length-drop, eqb-true, leb-false, leb-true}
+use Rattle.std.proofs.Common.{◌≡◌, ℕ, ◌+◌, ◌<◌, ◌≤◌, Bool, true, false, cond, eqb, leb, ◌↔◌, List, ◌∷◌, length, drop, Ok, Err, Result, sym, refl, ap, ◌∙◌, subst, ⊎_elim, arith, length-append, length-drop, eqb-true, leb-false, leb-true}
 use mathlib.Core.Option.{Option}
 use borrow.Author.Tests.{eqb-false}
 use Rattle.std.proofs.lemmas.List.{take_at}
@@ -24,18 +24,8 @@ use Rattle.calls.specs.Trials.{plain_of, branch_of, opened, model_done, moved_on
 use Rattle.calls.specs.Views.{Live, LiveBy, read_trial, Whole}
 use Rattle.calls.specs.Exact.{StepExact, StepIsExact}
 use Rattle.calls.proofs.Enough.{enough_holds}
-use Rattle.calls.proofs.Forking.{refused_not}
 use Rattle.calls.proofs.Following.{open_forks}
-use Rattle.calls.proofs.StepCases.{
-  ByRule,
-  ByModel,
-  told,
-  rule_reads,
-  model_reads,
-  read_model,
-  model_same,
-  rule_not_model,
-}
+use Rattle.calls.proofs.StepCases.{ByModel, told, rule_is, model_is, read_model}
 use Rattle.calls.proofs.StepsExact.{
   running_same,
   left,
@@ -135,17 +125,15 @@ module _
   -- what the bytes are granted for is what the tests say
   told_model : ByModel K (read_trial t h) bs → (length rs ≡ n) × Passes
   told_model c =
-      let same =
-      model_same c.count n c.reps rs
-      (sym (model_reads c.count c.reps) ∙ sym (ap step_in c.bytes) ∙ e) in
+      let same : c.reps ≡ rs = cc (e, model_is c) in
       let here =
       running_same (branch_of t h) c.branch (open_forks t h) c.forks (sym (runs K t h bs w un) ∙ c.state) in (
-        ap length (sym same.1) ∙ c.counted ∙ same.0,
+        ap length (sym same) ∙ c.counted ∙ cc (e, model_is c),
         subst
             (λ (z : List ℕ). Lawful K (read_sheet (plain_of t h)) t.names z ×
             Few (read_sheet (plain_of t h)) z (branch_of t h).facts most_tuples ×
             Satisfies (read_sheet (plain_of t h)) (Named (read_sheet (plain_of t h)) z (branch_of t h).facts))
-            same.1
+            same
             (subst
             (λ (b : Branch). Lawful K (read_sheet (plain_of t h)) b.count c.reps ×
             Few (read_sheet (plain_of t h)) c.reps b.facts most_tuples ×
@@ -157,13 +145,10 @@ module _
       length rs ≡ n → t.granted < 1000000 → (z : Result (Unit {0}) Refusal) →
       model_answer K (read_sheet (plain_of t h)) (branch_of t h) n rs ≡ z → LeftExact (model_done t h rs z)
   by_answer l room (Ok u) q = opens l room ((exactly l).0 q)
-  by_answer l room (Err r) q = left K t h bs r (λ st' g. by_case (told g).2)
-    where
-      by_case : ByRule K (read_trial t h) bs ⊎ ByModel K (read_trial t h) bs → ⊥
-      by_case (inl c) =
-          rule_not_model _ n rs
-          (sym (rule_reads c.r c.ph c.pl c.qh c.ql c.t c.w) ∙ sym (ap step_in c.bytes) ∙ e)
-      by_case (inr c) = refused_not r tt (sym q ∙ (exactly l).1 (told_model c).1)
+  by_answer l room (Err r) q =
+      left K t h bs r
+      (λ st' g.
+      ⊎_elim (λ c. cc (e, rule_is c)) (λ c. cc (q, (exactly l).1 (told_model c).1)) (told g).2)
 
   by_records :
       length rs ≡ n → (b : Bool) → leb 1000000 t.granted ≡ b →

@@ -1,6 +1,6 @@
 -- A step by a rule comes to what the calculus has (`come_right`): granted (`granted_step`) and refused
 -- (`refused_step`).
-use Rattle.std.proofs.Common.{◌≡◌, ℕ, ◌-◌, ◌<◌, Bool, true, false, cond, eqb, List, Ok, Err, Result, sym, refl, ◌∙◌, subst, arith, eqb-true}
+use Rattle.std.proofs.Common.{◌≡◌, ℕ, ◌-◌, ◌<◌, Bool, true, false, cond, eqb, List, Ok, Err, Result, sym, refl, subst, arith, eqb-true}
 use mathlib.Core.Option.{Option}
 use Rattle.std.specs.List.{slice_get}
 use Rattle.records.specs.declared.rows.Step.{Step}
@@ -21,7 +21,6 @@ use Rattle.calls.specs.RuleSteps.{closing, growing, codes_of, rows_of, branch_fa
 use Rattle.calls.specs.Trials.{plain_of, branch_of}
 use Rattle.calls.specs.Views.{read_trial, LiveBy, Whole}
 use Rattle.calls.proofs.Bridge.{bridged}
-use Rattle.calls.proofs.Forking.{refused_not}
 use Rattle.calls.proofs.Following.{open_forks, Right, live}
 use Rattle.calls.proofs.Closings.{closes}
 use Rattle.calls.proofs.Growing.{grows}
@@ -49,7 +48,7 @@ come_right K t h x w un room =
         λ alts a has.
         (let m =
         bridged.1 K (plain_of t h) (branch_facts t h) t.names (live t h w un room).fair x alts a in
-        refused_not e m.0 (sym ep ∙ m.1))
+        cc (ep, m.1))
     by_plan (Ok y) ep = by_count y (eqb (alternatives_of y.rule) 0) ep refl
 
 -- a granted step: the rule applies with room, all is kept, and the trial moves to where its alternatives bring it
