@@ -1,5 +1,5 @@
 -- A step has a plan exactly where a rule of the calculus applies, with the same alternatives (`bridged`).
-use Rattle.std.proofs.Common.{◌≡◌, ℕ, ◌+◌, ◌≤◌, Bool, true, false, cond, ◌&&◌, eqb, List, [], ◌∷◌, ◌++◌, map, Some, None, Ok, Err, Option as Maybe, Result, sym, refl, ap, ◌∙◌, subst, ap₂, arith, eq-eqb, eqb-true}
+use Rattle.std.proofs.Common.{◌≡◌, ℕ, ◌+◌, ◌≤◌, Bool, true, false, cond, eqb, List, [], ◌∷◌, ◌++◌, map, Some, Ok, Err, Result, sym, refl, ap, ◌∙◌, subst, ap₂, arith, eq-eqb, eqb-true}
 use Rattle.std.proofs.lemmas.Bool.{and_from, and_parts}
 use mathlib.Core.Option.{Option, some}
 use Rattle.std.specs.List.{AllByRecursion, slice_get}
@@ -8,7 +8,7 @@ use Rattle.records.specs.declared.rows.Fact.{Fact as FactRow}
 use Rattle.records.specs.declared.rows.Step.{Step}
 use Rattle.records.specs.declared.rule.Rule.{Rule as RuleName}
 use Rattle.records.specs.declared.refusal.Refusal.{Refusal}
-use Rattle.records.specs.declared.refusal.Refusal.TheVariants.{NoRule, NotOnBranch, NotMet}
+use Rattle.records.specs.declared.refusal.Refusal.TheVariants.{NotMet}
 use Rattle.rules.specs.declared.cited.Alt.{Alt as AltRow}
 use Rattle.rules.specs.declared.cited.Cited.{Cited}
 use Rattle.rules.specs.declared.cited.Plan.{Plan}
@@ -29,6 +29,7 @@ use Rattle.calls.proofs.Numbers.{named, numbered}
 use Rattle.calls.proofs.Rows.{full}
 use Rattle.calls.proofs.Written.{few, alts_back, alts_kept, facts_up}
 use Rattle.calls.proofs.Complete.{complete}
+use Rattle.calls.proofs.Forking.{made}
 use Rattle.calls.proofs.Found.{found}
 
 -- a field that is zero, by its test
@@ -191,62 +192,24 @@ module _ (K : ℕ → Option ℕ) (P : Plain) (good : Good P) where
     SomeApply x = (alts : List Alt) × AppliesTo K P facts n x alts
 
     applies : (x : Step) (y : Plan) → plan_of x ≡ Ok y → SomeApply x
-    applies x y h = by_rule (rule_of x.rule) refl h
-      where
-        wrong : (e : Refusal) → ◌≡◌ {A = Result Plan Refusal} (Err e) (Ok y) → SomeApply x
-        wrong e h = absurd cc
-
-        by_met :
-            (r : RuleName) (f g : FactRow) → rule_of x.rule ≡ Some r →
-            looked (uses r).p facts x.p ≡ Some f → looked (uses r).q facts x.q ≡ Some g →
-            (zeros_kept r x && line_met r (cites r x f g)) ≡ true → SomeApply x
-        by_met r f g er ep eq h =
-            let m = and_parts (zeros_kept r x) _ h in
-            let hp = and_parts (untouched (uses r).p x.p) _ m.0 in
-            let hq = and_parts (untouched (uses r).q x.q) _ hp.1 in
-            let ht = and_parts (untouched (uses r).t x.t) _ hq.1 in
-            let fp = fits_seen (uses r).p x.p f ep in
-            let fq = fits_seen (uses r).q x.q g eq in
-            let v = found K P good r n (eqb x.p x.q) f g x.t x.w fp fq ht.0 ht.1 m.1 in
-            let en = numbered x.rule r er in
-            let c = citing r x.p x.q f g v.cited (ep, hp.0) (eq, hq.0) v.from in (
-              v.alts,
-              record {
-                cited = v.cited;
-                rule = subst (λ (i : ℕ). Rule K (read_sheet P) n i x.t x.w v.cited v.alts) en
-                    v.rule;
-                cites = subst (λ (i : ℕ). Cites branch i x.p x.q v.cited) en c;
-              },
-            )
-
-        by_test :
-            (z : Bool) (r : RuleName) (f g : FactRow) → (z ≡ true → SomeApply x) →
-            ◌≡◌ {A = Result Plan Refusal}
-            (cond z (Ok (record { rule = r; cited = cites r x f g })) (Err NotMet)) (Ok y) →
-            SomeApply x
-        by_test true r f g k h = k refl
-        by_test false r f g k h = wrong NotMet h
-
-        by_q :
-            (r : RuleName) (f : FactRow) (o : Maybe FactRow) → rule_of x.rule ≡ Some r →
-            looked (uses r).p facts x.p ≡ Some f → looked (uses r).q facts x.q ≡ o →
-            plan_q K P.codes P.rows r x f o ≡ Ok y → SomeApply x
-        by_q r f None er ep eq h = wrong (NotOnBranch x.q) h
-        by_q r f (Some g) er ep eq h =
-            by_test (zeros_kept r x && line_met r (cites r x f g)) r f g (by_met r f g er ep eq) h
-
-        by_p :
-            (r : RuleName) (o : Maybe FactRow) → rule_of x.rule ≡ Some r →
-            looked (uses r).p facts x.p ≡ o →
-            plan_p K P.codes P.rows facts r x o ≡ Ok y → SomeApply x
-        by_p r None er ep h = wrong (NotOnBranch x.p) h
-        by_p r (Some f) er ep h = by_q r f (looked (uses r).q facts x.q) er ep refl h
-
-        by_rule :
-            (o : Maybe RuleName) → rule_of x.rule ≡ o → plan_rule K P.codes P.rows facts x o ≡ Ok y →
-            SomeApply x
-        by_rule None er h = wrong (NoRule x.rule) h
-        by_rule (Some r) er h = by_p r (looked (uses r).p facts x.p) er refl h
+    applies x y h =
+        let w = made K P.codes P.rows facts x y h in
+        let m = and_parts (zeros_kept y.rule x) _ w.met in
+        let hp = and_parts (untouched (uses y.rule).p x.p) _ m.0 in
+        let hq = and_parts (untouched (uses y.rule).q x.q) _ hp.1 in
+        let ht = and_parts (untouched (uses y.rule).t x.t) _ hq.1 in
+        let fp = fits_seen (uses y.rule).p x.p w.f w.at_p in
+        let fq = fits_seen (uses y.rule).q x.q w.g w.at_q in
+        let v = found K P good y.rule n (eqb x.p x.q) w.f w.g x.t x.w fp fq ht.0 ht.1 m.1 in
+        let en = numbered x.rule y.rule w.named in
+        let c = citing y.rule x.p x.q w.f w.g v.cited (w.at_p, hp.0) (w.at_q, hq.0) v.from in (
+          v.alts,
+          record {
+            cited = v.cited;
+            rule = subst (λ (i : ℕ). Rule K (read_sheet P) n i x.t x.w v.cited v.alts) en v.rule;
+            cites = subst (λ (i : ℕ). Cites branch i x.p x.q v.cited) en c;
+          },
+        )
 
     -- ── the two together ───────────────────────────────────────────────────
 

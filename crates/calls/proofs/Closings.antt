@@ -86,12 +86,12 @@ module _
         Stacked (plain_of t h) (branch_facts t h) t.constraints f.facts (take (t.forks - 1) h.forks)
     below =
         (top (plain_of t h) t.constraints (branch_facts t h) t.facts (forks_of t h)
-        (take (t.forks - 1) h.forks) f forks_split (live t h w un room).stacked).0
+        (take (t.forks - 1) h.forks) f forks_split (live t h w un).stacked).0
 
     fit : ForkFits (plain_of t h) (branch_facts t h) t.constraints t.facts f
     fit =
         (top (plain_of t h) t.constraints (branch_facts t h) t.facts (forks_of t h)
-        (take (t.forks - 1) h.forks) f forks_split (live t h w un room).stacked).1
+        (take (t.forks - 1) h.forks) f forks_split (live t h w un).stacked).1
 
     abbrev a : AltRow
     a = alternative_of f.rule (cited_at (plain_of t h) (branch_facts t h) f) f.names f.next
@@ -99,12 +99,12 @@ module _
     few_facts_then : f.facts + size_of a ≤ 1024
     few_facts_then =
         next_few_facts (plain_of t h) t.constraints t.facts (branch_facts t h)
-        (take (t.forks - 1) h.forks) f (facts_long t h w un room) below fit
+        (take (t.forks - 1) h.forks) f (facts_long t h w) below fit
 
     few_names_then : f.names + a.fresh ≤ 64
     few_names_then =
         next_few_names (plain_of t h) t.constraints t.facts (branch_facts t h)
-        (take (t.forks - 1) h.forks) f (facts_long t h w un room) below fit
+        (take (t.forks - 1) h.forks) f (facts_long t h w) below fit
 
     abbrev back : Outcome
     back = outcome.Resumes (grown f.facts f.names a) (onward f) (forks_left t.forks f)
@@ -144,7 +144,7 @@ module _
         let l = few_facts_then in
         let lands =
         resume_lands (plain_of t h) t.constraints t.facts (branch_facts t h)
-        (take (t.forks - 1) h.forks) f (facts_long t h w un room) below fit
+        (take (t.forks - 1) h.forks) f (facts_long t h w) below fit
         (ltb (onward f).next (alternatives_of f.rule)) refl in
         let follows =
         lands_follow t h w un room (f.facts + size_of a) (f.names + a.fresh) (forks_left t.forks f)

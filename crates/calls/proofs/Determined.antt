@@ -1,5 +1,5 @@
 -- The subject grants a call at most one stage, where it is read from numbers and stores (`single`).
-use Rattle.std.proofs.Common.{◌≡◌, ℕ, ◌⊎◌, List, [], length, drop, sym, refl, ap, ◌∙◌, subst, inl, inr, arith}
+use Rattle.std.proofs.Common.{◌≡◌, ℕ, ◌⊎◌, List, length, drop, sym, refl, ap, ◌∙◌, subst, inl, inr, arith}
 use mathlib.Core.Option.{Option, none}
 use Rattle.std.specs.declared.option.Option.TheVariants as option
 use Rattle.records.specs.declared.record.RowRecord.TheVariants as row
@@ -7,7 +7,7 @@ use Rattle.records.specs.declared.verdict.Verdict.{Verdict}
 use Rattle.records.specs.declared.verdict.Verdict.TheVariants as verdict
 use Rattle.records.specs.Reading.{RowRead, byte, row_in, step_of}
 use Rattle.meaning.specs.Terms.{Row, Fact, names}
-use Rattle.meaning.specs.Calculus.{Alt, Branch, Fork, State, running, closed, apply, Applies}
+use Rattle.meaning.specs.Calculus.{Alt, Branch, Fork, running, apply, Applies}
 use Rattle.meaning.specs.Mixes.{Draft, drafted, with_code, with_row, with_constraint, Trial, moved, modelled}
 use Rattle.meaning.specs.Mixes.{Stage, filling, trying, settled, Call, add, seal, step, settle}
 use Rattle.meaning.specs.Mixes.{Grants, label_row, term_row, constraint_row, full_sheet, rule_step, model_step}
@@ -107,15 +107,6 @@ stepped K T bs st (rule_step {b = b} {fs = fs} {alts = alts} r ph pl qh ql t w u
     })
 stepped K T bs st (model_step count rs u s g n l few sat) = inr (record { mark = refl; leads = refl })
 
--- two running states that are equal have equal branches and equal forks
-branch_at : State → Branch → Branch
-branch_at (running b fs) d = b
-branch_at closed d = d
-
-forks_at : State → List Fork
-forks_at (running b fs) = fs
-forks_at closed = []
-
 module _ (K : ℕ → Option ℕ) (t : Counts) (h : Held) (w : Whole t h) (bs : List ℕ) where
   -- the state of a trial that is undecided
   state_is :
@@ -127,19 +118,18 @@ module _ (K : ℕ → Option ℕ) (t : Counts) (h : Held) (w : Whole t h) (bs : 
 
   rules_one :
       (st st' : Stage) → RuleLed K (read_trial t h) bs st → RuleLed K (read_trial t h) bs st' → st ≡ st'
-  unfolding branch_at forks_at
   rules_one st st' x y =
       let T = read_trial t h in
       let s = state_is t.verdict refl x.undecided in
-      let at_x : branch_of t h ≡ x.branch = ap (λ (z : State). branch_at z (branch_of t h)) (sym s.0 ∙ x.state) in
-      let at_y : branch_of t h ≡ y.branch = ap (λ (z : State). branch_at z (branch_of t h)) (sym s.0 ∙ y.state) in
+      let at_x : branch_of t h ≡ x.branch = cc (s.0, x.state) in
+      let at_y : branch_of t h ≡ y.branch = cc (s.0, y.state) in
       let Ap : Branch → List Alt → Type 0 = λ b alts.
       Applies K T.sheet b (step_of bs).rule (step_of bs).p (step_of bs).q (step_of bs).t (step_of bs).w alts in
       let alts_one : x.alts ≡ y.alts =
       bridged.2 K (plain_of t h) (branch_facts t h) t.names s.1.fair (step_of bs) x.alts y.alts
       (subst (λ (b : Branch). Ap b x.alts) (sym at_x) x.applies)
       (subst (λ (b : Branch). Ap b y.alts) (sym at_y) y.applies) in
-      let forks_one : x.forks ≡ y.forks = ap forks_at (sym x.state ∙ y.state) in
+      let forks_one : x.forks ≡ y.forks = cc (x.state, y.state) in
       x.leads
       ∙ ap (λ (b : Branch). trying (moved T (apply b x.alts x.forks))) (sym at_x ∙ at_y)
       ∙ ap (λ (a : List Alt). trying (moved T (apply y.branch a x.forks))) alts_one

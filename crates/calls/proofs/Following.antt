@@ -45,9 +45,9 @@ Right K t h x (Err e) =
 abbrev pub Follows : Counts → Held → Counts → Held → State → Type 0
 Follows t h t' h' x = Whole t' h' × (read_trial t' h' ≡ subject.moved (read_trial t h) x)
 
-module _ (t : Counts) (h : Held) (w : Whole t h) (un : t.verdict ≡ verdict.Undecided) (room : t.granted < 1000000) where
-  pub live : Live t h
-  live = subst (λ (v : Verdict). LiveBy v t h) un w.live
+module _ (t : Counts) (h : Held) (w : Whole t h) where
+  pub live : t.verdict ≡ verdict.Undecided → Live t h
+  live un = subst (λ (v : Verdict). LiveBy v t h) un w.live
 
   -- the branch is as long as counted, and there are as many forks
   pub facts_long : length (branch_facts t h) ≡ t.facts
@@ -60,6 +60,7 @@ module _ (t : Counts) (h : Held) (w : Whole t h) (un : t.verdict ≡ verdict.Und
       let big : 64 ≤ length h.forks = w.enough.forks in
       let low : t.forks ≤ 64 = w.few_forks in omega (arith, length-take t.forks h.forks)
 
+module _ (t : Counts) (h : Held) (w : Whole t h) (un : t.verdict ≡ verdict.Undecided) (room : t.granted < 1000000) where
   -- facts and forks in the stores that land are followed
   pub lands_follow :
       (m n k : ℕ) (xs : List FactRow) (ks : List ForkRow) (x : State) (F : List FactRow) (G : List ForkRow) →
@@ -152,7 +153,7 @@ module _ (t : Counts) (h : Held) (w : Whole t h) (un : t.verdict ≡ verdict.Und
       (K : ℕ → Option ℕ) (x : Step) (y : Plan)
       (ep : planned K (codes_of t h) (rows_of t h) (branch_facts t h) x ≡ Ok y) where
     pub applies : AppliesTo K (plain_of t h) (branch_facts t h) t.names x (plan_alts (plain_of t h) t.names y)
-    applies = bridged.0 K (plain_of t h) (branch_facts t h) t.names live.fair x y ep
+    applies = bridged.0 K (plain_of t h) (branch_facts t h) t.names (live t h w un).fair x y ep
 
     -- the plan's alternatives are the only ones, so without room for them the step is refused
     pub refused :
@@ -161,7 +162,7 @@ module _ (t : Counts) (h : Held) (w : Whole t h) (un : t.verdict ≡ verdict.Und
     refused e never = λ alts a has.
         never
         (subst (λ (z : List Alt). Room (branch_of t h) (open_forks t h) z)
-        (bridged.2 K (plain_of t h) (branch_facts t h) t.names live.fair x alts
+        (bridged.2 K (plain_of t h) (branch_facts t h) t.names (live t h w un).fair x alts
         (plan_alts (plain_of t h) t.names y) a applies)
         has)
 

@@ -8,19 +8,12 @@ use Rattle.records.specs.declared.rows.Step.{Step}
 use Rattle.records.specs.declared.rule.Rule.{Rule as RuleName}
 use Rattle.records.specs.declared.rule.Rule.TheVariants as R
 use Rattle.records.specs.declared.refusal.Refusal.{Refusal}
-use Rattle.records.specs.declared.refusal.Refusal.TheVariants.{NoRule, NotOnBranch, NotMet}
+use Rattle.records.specs.declared.refusal.Refusal.TheVariants.{NotMet}
 use Rattle.rules.specs.declared.cited.Plan.{Plan}
 use Rattle.rules.specs.Rules.{alternative_of, alternatives_of, line_met}
 use Rattle.records.specs.Kinds.{rule_of}
 use Rattle.rules.specs.Looked.{uses, looked, zeros_kept, cited_by, plan_q, plan_p, plan_rule, planned}
 use Rattle.calls.specs.RuleSteps.{cited_again}
-
--- a refusal is no plan
-pub refused_not : {X Y : Type 0} (e : Refusal) (y : Y) → ◌≡◌ {A = Result Y Refusal} (Err e) (Ok y) → X
-refused_not e y h = absurd cc
-
-pub ok_same : {Y : Type 0} (x y : Y) → ◌≡◌ {A = Result Y Refusal} (Ok x) (Ok y) → x ≡ y
-ok_same x y h = cc
 
 -- the alternatives of a rule that has two or more
 abbrev Again : RuleName → Type 0
@@ -51,43 +44,47 @@ pub few_alternatives : (r : RuleName) → alternatives_of r ≤ 3
 few_alternatives R.ClosDown = omega arith
 few_alternatives _ = omega arith
 
-module _
-    (K : ℕ → Option ℕ) (codes : List ℕ) (rows : List TermRow) (facts : List FactRow) (x : Step) (y : Plan) where
+module _ (K : ℕ → Option ℕ) (codes : List ℕ) (rows : List TermRow) (facts : List FactRow) (x : Step) where
   -- what a plan is made of
-  abbrev pub Made : Type 0
-  Made =
-      (f : FactRow) × (g : FactRow) × (looked (uses y.rule).p facts x.p ≡ Some f) ×
-      (y.cited ≡ cited_by K codes rows y.rule x f g)
+  pub record Made (y : Plan) : Type 0 where
+    pub f : FactRow
+    pub g : FactRow
+    pub named : rule_of x.rule ≡ Some y.rule
+    pub at_p : looked (uses y.rule).p facts x.p ≡ Some f
+    pub at_q : looked (uses y.rule).q facts x.q ≡ Some g
+    pub cites : y.cited ≡ cited_by K codes rows y.rule x f g
+    pub met : (zeros_kept y.rule x && line_met y.rule (cited_by K codes rows y.rule x f g)) ≡ true
 
-  pub made : planned K codes rows facts x ≡ Ok y → Made
-  made h = by_rule (rule_of x.rule) h
+  pub made : (y : Plan) → planned K codes rows facts x ≡ Ok y → Made y
+  made y h = by_rule (rule_of x.rule) refl h
     where
       by_test :
-          (b : Bool) (r : RuleName) (f g : FactRow) → looked (uses r).p facts x.p ≡ Some f →
+          (b : Bool) (r : RuleName) (f g : FactRow) → rule_of x.rule ≡ Some r →
+          looked (uses r).p facts x.p ≡ Some f → looked (uses r).q facts x.q ≡ Some g →
+          (zeros_kept r x && line_met r (cited_by K codes rows r x f g)) ≡ b →
           ◌≡◌ {A = Result Plan Refusal}
           (cond b (Ok (record { rule = r; cited = cited_by K codes rows r x f g })) (Err NotMet)) (Ok y) →
-          Made
-      by_test true r f g ep h =
-          let q = ok_same _ y h in (
-            f,
-            g,
-            subst (λ (z : Plan). looked (uses z.rule).p facts x.p ≡ Some f) q ep,
-            subst (λ (z : Plan). z.cited ≡ cited_by K codes rows z.rule x f g) q refl,
-          )
-      by_test false r f g ep h = refused_not NotMet y h
+          Made y
+      by_test true r f g er ep eq m h =
+          let e : record { rule = r; cited = cited_by K codes rows r x f g } ≡ y = cc in
+          subst Made e
+          (record { f = f; g = g; named = er; at_p = ep; at_q = eq; cites = refl; met = m })
+      by_test false r f g er ep eq m h = absurd cc
 
       by_q :
-          (r : RuleName) (f : FactRow) (o : Maybe FactRow) → looked (uses r).p facts x.p ≡ Some f →
-          plan_q K codes rows r x f o ≡ Ok y → Made
-      by_q r f None ep h = refused_not (NotOnBranch x.q) y h
-      by_q r f (Some g) ep h = by_test (zeros_kept r x && line_met r (cited_by K codes rows r x f g)) r f g ep h
+          (r : RuleName) (f : FactRow) (o : Maybe FactRow) → rule_of x.rule ≡ Some r →
+          looked (uses r).p facts x.p ≡ Some f → looked (uses r).q facts x.q ≡ o →
+          plan_q K codes rows r x f o ≡ Ok y → Made y
+      by_q r f None er ep eq h = absurd cc
+      by_q r f (Some g) er ep eq h =
+          by_test (zeros_kept r x && line_met r (cited_by K codes rows r x f g)) r f g er ep eq refl h
 
       by_p :
-          (r : RuleName) (o : Maybe FactRow) → looked (uses r).p facts x.p ≡ o →
-          plan_p K codes rows facts r x o ≡ Ok y → Made
-      by_p r None ep h = refused_not (NotOnBranch x.p) y h
-      by_p r (Some f) ep h = by_q r f (looked (uses r).q facts x.q) ep h
+          (r : RuleName) (o : Maybe FactRow) → rule_of x.rule ≡ Some r → looked (uses r).p facts x.p ≡ o →
+          plan_p K codes rows facts r x o ≡ Ok y → Made y
+      by_p r None er ep h = absurd cc
+      by_p r (Some f) er ep h = by_q r f (looked (uses r).q facts x.q) er ep refl h
 
-      by_rule : (o : Maybe RuleName) → plan_rule K codes rows facts x o ≡ Ok y → Made
-      by_rule None h = refused_not (NoRule x.rule) y h
-      by_rule (Some r) h = by_p r (looked (uses r).p facts x.p) refl h
+      by_rule : (o : Maybe RuleName) → rule_of x.rule ≡ o → plan_rule K codes rows facts x o ≡ Ok y → Made y
+      by_rule None er h = absurd cc
+      by_rule (Some r) er h = by_p r (looked (uses r).p facts x.p) er refl h

@@ -13,7 +13,7 @@ use Rattle.calls.specs.Reading.{tuple_of, read_form, read_fact, write_form}
 use Rattle.calls.proofs.Truth.{eqb_self}
 
 -- a form by its number
-abbrev form_of : List ℕ → FactRow → ℕ → Form
+abbrev pub form_of : List ℕ → FactRow → ℕ → Form
 form_of u f k =
     cond (eqb k 1) (member u f.term) (cond (eqb k 2) (equal f.a f.b) (same f.term f.a))
 

@@ -69,7 +69,7 @@ module _
       let e = sized a in omega arith
 
   all_fair : AllByRecursion (λ (z : AltRow). Fair (plain_of t h) (branch_facts t h ++ alt_facts z) (t.names + z.fresh)) rows
-  all_fair = bridged.3 K (plain_of t h) (branch_facts t h) t.names (live t h w un room).fair x y ep
+  all_fair = bridged.3 K (plain_of t h) (branch_facts t h) t.names (live t h w un).fair x y ep
 
   first_fair : Fair (plain_of t h) (branch_facts t h ++ alt_facts a) (t.names + a.fresh)
   first_fair =
@@ -82,8 +82,8 @@ module _
   with_room names facts forks =
       has_room (plain_of t h) (branch_facts t h) t.names (forks_of t h) y.rule y.cited names
       (subst (λ (k : ℕ). AllByRecursion (λ (z : AltRow). k + length (alt_facts z) ≤ 1024) rows)
-      (sym (facts_long t h w un room)) facts)
-      (λ l. subst (λ (k : ℕ). k < 64) (sym (forks_long t h w un room)) (forks l))
+      (sym (facts_long t h w)) facts)
+      (λ l. subst (λ (k : ℕ). k < 64) (sym (forks_long t h w)) (forks l))
 
   -- ── granted ──────────────────────────────────────────────────────────────
 
@@ -100,7 +100,7 @@ module _
       (put_below h.facts t.facts a t.constraints w.constraints_kept (omega arith))
       (put_front h.facts t.facts a (omega arith)) refl w.few_forks
       (adds_land (plain_of t h) t.constraints t.facts t.names (branch_facts t h) (forks_of t h)
-      (facts_long t h w un room) (live t h w un room).stacked w.constraints_kept y.rule y.cited a refl one
+      (facts_long t h w) (live t h w un).stacked w.constraints_kept y.rule y.cited a refl one
       (first_facts facts) (first_names names) first_fair))
 
   forks :
@@ -112,17 +112,17 @@ module _
       let l = first_facts facts in
       let m = made K (codes_of t h) (rows_of t h) (branch_facts t h) x y ep in
       let two = forking y.rule z₀ z₁ in
-      let there : slice_get (branch_facts t h) x.p ≡ Some m.0 =
-      subst (λ (z : Bool). looked z (branch_facts t h) x.p ≡ Some m.0) two.0 m.2 in
+      let there : slice_get (branch_facts t h) x.p ≡ Some m.f =
+      subst (λ (z : Bool). looked z (branch_facts t h) x.p ≡ Some m.f) two.0 m.at_p in
       let low : x.p < t.facts =
-      subst (λ (k : ℕ). x.p < k) (facts_long t h w un room) (slice_get_within (branch_facts t h) x.p m.0 there) in
+      subst (λ (k : ℕ). x.p < k) (facts_long t h w) (slice_get_within (branch_facts t h) x.p m.f there) in
       let each :
       (i : ℕ) →
       alternative_of y.rule y.cited t.names i
-      ≡ alternative_of y.rule (cited_again (rows_of t h) m.0 x.t) t.names i =
+      ≡ alternative_of y.rule (cited_again (rows_of t h) m.f x.t) t.names i =
       λ i.
-      ap (λ (c : Cited). alternative_of y.rule c t.names i) m.3
-      ∙ again y.rule z₀ z₁ K (codes_of t h) (rows_of t h) x m.0 m.1 t.names i in
+      ap (λ (c : Cited). alternative_of y.rule c t.names i) m.cites
+      ∙ again y.rule z₀ z₁ K (codes_of t h) (rows_of t h) x m.f m.g t.names i in
       granted t h w un room K x y ep
       (outcome.Forks (grown t.facts t.names a) (forked t y.rule x) (t.forks + 1))
       (with_room names facts (λ l. few))
@@ -133,8 +133,8 @@ module _
       (put_front h.facts t.facts a (omega arith))
       (take_more_set h.forks t.forks (forked t y.rule x) (omega arith)) (omega arith)
       (forks_land (plain_of t h) t.constraints t.facts t.names (branch_facts t h) (forks_of t h)
-      (facts_long t h w un room) (live t h w un room).stacked w.constraints_kept y.rule y.cited a refl
-      two.1.0 two.1.1 x.p x.t m.0 there low each w.few_names (first_facts facts)
+      (facts_long t h w) (live t h w un).stacked w.constraints_kept y.rule y.cited a refl
+      two.1.0 two.1.1 x.p x.t m.f there low each w.few_names (first_facts facts)
       (first_names names) names facts all_fair first_fair))
 
   -- ── by the tests, in their order ─────────────────────────────────────────
@@ -162,7 +162,7 @@ module _
       let two_or_more : 2 ≤ alternatives_of y.rule = subst (λ (k : ℕ). 2 ≤ k) (sym two.1) (omega arith) in
       let few : length (forks_of t h) < 64 =
       room_forks (plain_of t h) (branch_facts t h) t.names (forks_of t h) y.rule y.cited has two_or_more in
-      let e = forks_long t h w un room in omega arith))
+      let e = forks_long t h w in omega arith))
 
   at_one :
       (b : Bool) → eqb (alternatives_of y.rule) 1 ≡ b → Names → Facts → Right K t h x (by_one b)
@@ -176,7 +176,7 @@ module _
       (λ has.
       both_ways _
       ((room_told.1 y.rule y.cited t.names t.facts w.few_facts).1
-      (subst (λ (k : ℕ). AllByRecursion (λ (z : AltRow). k + length (alt_facts z) ≤ 1024) rows) (facts_long t h w un room)
+      (subst (λ (k : ℕ). AllByRecursion (λ (z : AltRow). k + length (alt_facts z) ≤ 1024) rows) (facts_long t h w)
       (room_facts (plain_of t h) (branch_facts t h) t.names (forks_of t h) y.rule y.cited has)))
       e)
   at_facts false e names =

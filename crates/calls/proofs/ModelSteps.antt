@@ -21,13 +21,12 @@ use Rattle.calls.specs.Sheets.{Counts}
 use Rattle.calls.specs.RuleSteps.{Stepped, left_denied}
 use Rattle.calls.specs.Models.{model_answer}
 use Rattle.calls.specs.Trials.{plain_of, branch_of, opened, model_done, moved_on, stepped_at}
-use Rattle.calls.specs.Views.{Live, LiveBy, read_trial, Whole}
+use Rattle.calls.specs.Views.{read_trial, Whole}
 use Rattle.calls.specs.Exact.{StepExact, StepIsExact}
 use Rattle.calls.proofs.Enough.{enough_holds}
-use Rattle.calls.proofs.Following.{open_forks}
+use Rattle.calls.proofs.Following.{live}
 use Rattle.calls.proofs.StepCases.{ByModel, told, rule_is, model_is, read_model}
 use Rattle.calls.proofs.StepsExact.{
-  running_same,
   left,
   spent,
   runs,
@@ -61,12 +60,9 @@ module _
       Few (read_sheet (plain_of t h)) rs (branch_of t h).facts most_tuples ×
       Satisfies (read_sheet (plain_of t h)) (Named (read_sheet (plain_of t h)) rs (branch_of t h).facts)
 
-  live : Live t h
-  live = subst (λ (v : Verdict). LiveBy v t h) un w.live
-
   few_codes : length (read_sheet (plain_of t h)).codes ≤ t.names
   few_codes =
-      let l : length (read_sheet (plain_of t h)).codes + t.free ≤ t.names = live.fair.named in omega arith
+      let l : length (read_sheet (plain_of t h)).codes + t.free ≤ t.names = (live t h w un).fair.named in omega arith
 
   exactly :
       length rs ≡ n →
@@ -104,7 +100,7 @@ module _
           few_granted = omega arith;
           constraints_kept = w.constraints_kept;
           good = w.good;
-          live = record { fair = live.fair; stacked = live.stacked };
+          live = record { fair = (live t h w un).fair; stacked = (live t h w un).stacked };
         },
         subst
             (λ (z : List ℕ). Grants K (trying (read_trial t h)) (subject.step z)
@@ -126,8 +122,7 @@ module _
   told_model : ByModel K (read_trial t h) bs → (length rs ≡ n) × Passes
   told_model c =
       let same : c.reps ≡ rs = cc (e, model_is c) in
-      let here =
-      running_same (branch_of t h) c.branch (open_forks t h) c.forks (sym (runs K t h bs w un) ∙ c.state) in (
+      let at_branch : c.branch ≡ branch_of t h = cc (runs K t h bs w un, c.state) in (
         ap length (sym same) ∙ c.counted ∙ cc (e, model_is c),
         subst
             (λ (z : List ℕ). Lawful K (read_sheet (plain_of t h)) t.names z ×
@@ -138,7 +133,7 @@ module _
             (λ (b : Branch). Lawful K (read_sheet (plain_of t h)) b.count c.reps ×
             Few (read_sheet (plain_of t h)) c.reps b.facts most_tuples ×
             Satisfies (read_sheet (plain_of t h)) (Named (read_sheet (plain_of t h)) c.reps b.facts))
-            (sym here.0) (c.lawful, c.few, c.satisfies)),
+            at_branch (c.lawful, c.few, c.satisfies)),
       )
 
   by_answer :

@@ -47,7 +47,7 @@ come_right K t h x w un room =
     by_plan (Err e) ep =
         λ alts a has.
         (let m =
-        bridged.1 K (plain_of t h) (branch_facts t h) t.names (live t h w un room).fair x alts a in
+        bridged.1 K (plain_of t h) (branch_facts t h) t.names (live t h w un).fair x alts a in
         cc (ep, m.1))
     by_plan (Ok y) ep = by_count y (eqb (alternatives_of y.rule) 0) ep refl
 
@@ -83,7 +83,7 @@ pub refused_step :
     t.verdict ≡ verdict.Undecided → come_to K t h x ≡ Err e → (alts : List Alt) →
     AppliesTo K (plain_of t h) (branch_facts t h) t.names x alts → Room (branch_of t h) (open_forks t h) alts → ⊥
 refused_step K t h x e w un r =
-    let l = subst (λ (v : Verdict). LiveBy v t h) un w.live in
+    let l = live t h w un in
     let w' : Whole (fresh_count t) h =
     record {
       enough = w.enough;

@@ -1,7 +1,7 @@
 -- A step by a rule is granted exactly where the subject has a case for its bytes (`rule_step_exact`), no other
 -- bytes are (`other_step_exact`, `short_model_exact`), none is once there is a verdict (`decided_step_exact`),
 -- and a settle is granted exactly where there is one (`settle_exact`).
-use Rattle.std.proofs.Common.{◌≡◌, ℕ, ◌+◌, ◌*◌, ◌<◌, ◌≤◌, Bool, true, false, cond, eqb, leb, List, [], ◌∷◌, length, Ok, Err, Result, sym, refl, ap, ◌∙◌, subst, ⊎_elim, arith, ne_eqb, leb-false, leb-true}
+use Rattle.std.proofs.Common.{◌≡◌, ℕ, ◌+◌, ◌*◌, ◌<◌, ◌≤◌, Bool, true, false, cond, eqb, leb, List, [], ◌∷◌, length, Ok, Err, Result, sym, refl, ap, subst, ⊎_elim, arith, ne_eqb, leb-false, leb-true}
 use mathlib.Core.Option.{Option}
 use Rattle.records.specs.declared.rows.Step.{Step}
 use Rattle.records.specs.declared.refusal.Refusal.{Refusal}
@@ -26,11 +26,6 @@ use Rattle.calls.specs.Exact.{Denied, StepExact, SettleExact, SettleIsExact}
 use Rattle.calls.proofs.Following.{open_forks, Right}
 use Rattle.calls.proofs.Steps.{come_right}
 use Rattle.calls.proofs.StepCases.{ByRule, told, rule_is, model_is, read_rule}
-
--- a running state has one branch and one list of forks
-pub running_same :
-    (b b' : Branch) (fs fs' : List Fork) → running b fs ≡ running b' fs' → (b ≡ b') × (fs ≡ fs')
-running_same b b' fs fs' e = (cc, cc)
 
 -- a granted step is answered so
 taken_ok : (t : Counts) (h : Held) (o : Outcome) → (taken t h o).result ≡ Ok tt
@@ -70,16 +65,17 @@ module _ (K : ℕ → Option ℕ) (t : Counts) (h : Held) (bs : List ℕ) (w : W
   told_rule x e c =
       let same : x ≡ record { rule = c.r; p = c.ph * 256 + c.pl; q = c.qh * 256 + c.ql; t = c.t; w = c.w } =
       cc (e, rule_is c) in
-      let here = running_same (branch_of t h) c.branch (open_forks t h) c.forks (sym runs ∙ c.state) in (
+      let at_branch : c.branch ≡ branch_of t h = cc (runs, c.state) in
+      let at_forks : c.forks ≡ open_forks t h = cc (runs, c.state) in (
         c.alts,
         subst (λ (z : Step). AppliesTo K (plain_of t h) (branch_facts t h) t.names z c.alts) (sym same)
             (subst
             (λ (z : Branch).
             Applies K (read_sheet (plain_of t h)) z c.r (c.ph * 256 + c.pl) (c.qh * 256 + c.ql) c.t c.w
             c.alts)
-            (sym here.0) c.applies),
-        subst (λ (z : Branch). Room z (open_forks t h) c.alts) (sym here.0)
-            (subst (λ (z : List Fork). Room c.branch z c.alts) (sym here.1) c.room),
+            at_branch c.applies),
+        subst (λ (z : Branch). Room z (open_forks t h) c.alts) at_branch
+            (subst (λ (z : List Fork). Room c.branch z c.alts) at_forks c.room),
       )
 
   -- granted, or refused, as the step is right to come to

@@ -16,6 +16,7 @@ use Rattle.calls.specs.Reading.{write_form, Plain, read_sheet, FactFits}
 use Rattle.calls.specs.Tests.{places, in_tests, eq_tests, same_tests, fact_ok, row_tests, row_ok}
 use Rattle.calls.proofs.Truth.{all_true}
 use Rattle.calls.proofs.Lookups.{there_at}
+use Rattle.calls.proofs.Forms.{form_of}
 use Rattle.calls.proofs.Rows.{arity_there}
 
 -- a tuple of arity k in four fields, the others zero
@@ -220,9 +221,7 @@ module _ (P : Plain) where
 
     -- its form, if that has the number k
     abbrev form_at : ℕ → Form
-    form_at k =
-        cond (eqb k 1) (member (tuple_of P.rows f) f.term)
-        (cond (eqb k 2) (equal f.a f.b) (same f.term f.a))
+    form_at k = form_of (tuple_of P.rows f) f k
 
     -- the fact fits by its form u, number k, where it is written so
     form_back :
