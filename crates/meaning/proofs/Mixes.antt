@@ -1,4 +1,4 @@
--- What every mix keeps: the sheet of a trial that is reached is full, `reached_full`, and its state comes by a run of the calculus on which the verdict rests, `reached_tried`.
+-- What every mix keeps: the sheet of a trial that is reached is full, and its state comes by a run of the calculus on which the verdict rests, `reached_tried`.
 use Rattle.std.proofs.Common.{◌≡◌, ℕ, ◌+◌, ◌<◌, ◌≤◌, List, [], ◌∷◌, length, sym, refl, subst, ⊎_elim, arith, length-append}
 use mathlib.Core.Option.{Option}
 use Rattle.std.specs.List.{AllByRecursion}
@@ -191,6 +191,3 @@ module _ (K : ℕ → Option ℕ) where
   reached_tried {T} r =
       let k = mix_kept r.mix (made_kept r.made) in
       ⊎_elim (λ e. subst (Kept K) e k) (λ e. subst (Kept K) e k) r.ends
-
-  pub reached_full : {T : Trial} → Reaches K T → Full T.sheet
-  reached_full r = (reached_tried r).whole.full

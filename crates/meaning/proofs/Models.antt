@@ -1,5 +1,5 @@
 -- Lawful representatives list an interpretation, and it satisfies what holds by name: `models`; so for every meaning that agrees on which labels are the same: `agrees`.
-use Rattle.std.proofs.Common.{◌≡◌, ℕ, ◌<◌, ◌≤◌, Bool, true, false, cond, T, eqb, List, [], ◌∷◌, map, length, sym, refl, ap, ◌∙◌, subst, ap₂, ⊎_elim, arith, eqb→eq}
+use Rattle.std.proofs.Common.{◌≡◌, ℕ, ◌<◌, ◌≤◌, Bool, true, false, cond, T, eqb, ◌↔◌, List, [], ◌∷◌, map, length, sym, refl, ap, ◌∙◌, subst, ap₂, ⊎_elim, arith, eqb→eq}
 use mathlib.Core.HLevel.{Σ_prop_path, hedberg}
 use mathlib.Core.List.Memᴰ
 use mathlib.Core.List.{map-map, Memᴰ as Mem}
@@ -14,7 +14,7 @@ use Rattle.meaning.specs.Calculus.{Branch, Fork, running, Run, start}
 use Rattle.meaning.specs.Model.{rep, Lawful, valued, coded, thing, on_term, tuples, row_is_variable, held, Named, Listed, Alike}
 use Rattle.meaning.proofs.Lookups.{past}
 use Rattle.meaning.proofs.RuleFits.{one_arity}
-use Rattle.meaning.proofs.Moved.{move, sat_moved}
+use Rattle.meaning.proofs.Moved.{move, all_moved}
 use Rattle.meaning.proofs.Sound.{run_neat, start_neat}
 
 maps : {A B C : Type 0} (g : B → C) (h : A → B) (l : List (List A)) → map (map g) (map (map h) l) ≡ map (map (λ x. g (h x))) l
@@ -128,21 +128,19 @@ module _ (K : ℕ → Option ℕ) (S : Sheet) (n : ℕ) (rs : List ℕ) (lawful 
     by_thing = λ i. record { name = λ e. thing K S (rep rs e); rel = λ t. (maps means self (held S cs t) ∙ sym (maps (thing K S) (rep rs) (held S cs t))) i }
 
     -- what holds by number holds by thing, and the other way round
-    crossed : (ks : List Fact) → AllByRecursion (SatFact S.rows (move number J) (move number J).name) ks → AllByRecursion (SatFact S.rows (move means J) (move means J).name) ks
+    by_number : AllByRecursion (SatFact S.rows J J.name) S.constraints ↔ Satisfies S (Named S rs cs)
     unfolding move
-    crossed [] h = tt
-    crossed (k ∷ ks) h = ((sat_moved means means_inj S.rows J J.name k).0 ((sat_moved number number_inj S.rows J J.name k).1 h.0), crossed ks h.1)
+    by_number = subst (λ (I : Interp ℕ). AllByRecursion (SatFact S.rows J J.name) S.constraints ↔ Satisfies S I) by_name (all_moved number number_inj S.rows J J.name S.constraints)
 
-    crossed_back : (ks : List Fact) → AllByRecursion (SatFact S.rows (move means J) (move means J).name) ks → AllByRecursion (SatFact S.rows (move number J) (move number J).name) ks
+    by_meaning : AllByRecursion (SatFact S.rows J J.name) S.constraints ↔ Satisfies S (Listed K S rs cs)
     unfolding move
-    crossed_back [] h = tt
-    crossed_back (k ∷ ks) h = ((sat_moved number number_inj S.rows J J.name k).0 ((sat_moved means means_inj S.rows J J.name k).1 h.0), crossed_back ks h.1)
+    by_meaning = subst (λ (I : Interp Thing). AllByRecursion (SatFact S.rows J J.name) S.constraints ↔ Satisfies S I) by_thing (all_moved means means_inj S.rows J J.name S.constraints)
 
     pub satisfied : Satisfies S (Named S rs cs) → Satisfies S (Listed K S rs cs)
-    satisfied h = subst (Satisfies S) by_thing (crossed S.constraints (subst (Satisfies S) (sym by_name) h))
+    satisfied h = by_meaning.0 (by_number.1 h)
 
     pub satisfied_by_name : Satisfies S (Listed K S rs cs) → Satisfies S (Named S rs cs)
-    satisfied_by_name h = subst (Satisfies S) by_name (crossed_back S.constraints (subst (Satisfies S) (sym by_thing) h))
+    satisfied_by_name h = by_number.0 (by_meaning.1 h)
 
     pub read : AllByRecursion (λ (c : Fact). FormFits S.rows n c.form) cs → Reads K S (Listed K S rs cs)
     read fits = record {

@@ -2,6 +2,7 @@
 use Rattle.std.proofs.Common.{◌≡◌, ℕ, Bool, true, false, ◌↔◌, List, [], ◌∷◌, ◌++◌, map, reverse, sym, refl, ap, ◌∙◌, subst, ap₂, inl, inr, ⊎_elim}
 use mathlib.Core.List.Memᴰ
 use mathlib.Core.List.{map-map, reverse-reverse, head-eq_of_cons-eq, tail-eq_of_cons-eq}
+use Rattle.std.specs.List.{AllByRecursion}
 use Rattle.std.proofs.lemmas.List.{map-append}
 use Rattle.meaning.specs.Terms.{Row, Tm, Var, Empty, Single, Union, Inter, Diff, Transp, Prod, Join, Closure, term, Form, member, equal, same, Fact}
 use Rattle.meaning.proofs.Names.{map_reverse_aux}
@@ -140,3 +141,10 @@ module _ {A B : Type 0} (f : A → B) where
         go : (g : Bool) → Sat rs J e g c.form ↔ Sat rs (move J) (λ i. f (e i)) g c.form
         go true = holds_moved rs J e c.form
         go false = let h = holds_moved rs J e c.form in (λ n p. n (h.1 p), λ n p. n (h.0 p))
+
+    pub all_moved : (rs : List Row) (J : Interp A) (e : ℕ → A) (cs : List Fact) → AllByRecursion (SatFact rs J e) cs ↔ AllByRecursion (SatFact rs (move J) (λ i. f (e i))) cs
+    all_moved rs J e [] = (λ h. h, λ h. h)
+    all_moved rs J e (c ∷ cs) =
+        let s = sat_moved rs J e c in
+        let all = all_moved rs J e cs in
+        (λ h. (s.0 h.0, all.0 h.1), λ h. (s.1 h.0, all.1 h.1))

@@ -84,9 +84,6 @@ module _ (K : ℕ → Option ℕ) (S : Sheet) (full : Full S) (I : Interp Thing)
   two_names : {x x' y y' : Thing} → x ≡ x' → y ≡ y' → x ∷ (y ∷ []) ≡ x' ∷ (y' ∷ [])
   two_names p q = λ i. p i ∷ (q i ∷ [])
 
-  R : ℕ → Thing → Thing → Type 0
-  R s x y = Value S.rows I s (x ∷ (y ∷ []))
-
   linked : (s t : ℕ) → Is S.rows t (closure s) → (x y : Thing) → Value S.rows I t (x ∷ (y ∷ [])) → Chain (λ p q. Value S.rows I s (p ∷ (q ∷ []))) x y
   linked s t is x y h =
       let v = open' is _ h in
