@@ -1,8 +1,10 @@
 -- What writes leave in the counted fronts of the stores: the facts of an alternative come after the front that
 -- they are written to (`put_front`, `put_below`), and the last of a front is split off it (`last_split`).
-use Rattle.std.proofs.Common.{◌≡◌, ℕ, zero, suc, ◌+◌, ◌-◌, ◌<◌, ◌≤◌, Bool, true, false, cond, eqb, List, [], ◌∷◌, ◌++◌, length, take, set, Some, None, sym, refl, ap, ◌∙◌, arith, length-set, length-take}
+use Rattle.std.proofs.Common.{◌≡◌, ℕ, ◌+◌, ◌-◌, ◌<◌, ◌≤◌, Bool, true, false, cond, eqb, List, [], ◌∷◌, ◌++◌, length, get_or, take, set, Some, None, sym, refl, ap, ◌∙◌, ⊎_elim, arith, length-set, length-take}
 use Rattle.std.specs.List.{slice_get}
-use Rattle.std.proofs.lemmas.List.{append-nil, append_assoc, take_more_set, take-take, take-append-le}
+use Rattle.std.proofs.lemmas.Option.{slice_get_within, get_or_from_slice_get, slice_get_cases, gets}
+use Rattle.std.proofs.lemmas.Grind.{common_steps}
+use Rattle.std.proofs.lemmas.List.{take_more, get_or-take, nil_from_length, append-nil, take-take, take-append-le}
 use Rattle.records.specs.declared.rows.Fact.{Fact as FactRow}
 use Rattle.rules.specs.declared.cited.Alt.{Alt as AltRow}
 use Rattle.rules.specs.Rules.{size_of, facts_of}
@@ -17,11 +19,7 @@ front_cut xs ys k m l e = sym (take-take k m xs l) ∙ ap (take k) e ∙ take-ta
 
 -- an entry of a front
 pub nth_front : {X : Type 0} (xs : List X) (k i : ℕ) → i < k → slice_get (take k xs) i ≡ slice_get xs i
-nth_front [] zero i h = refl
-nth_front [] (suc k) i h = refl
-nth_front (x ∷ xs) zero i h = absurd (omega arith)
-nth_front (x ∷ xs) (suc k) zero h = refl
-nth_front (x ∷ xs) (suc k) (suc i) h = nth_front xs k i (omega arith)
+nth_front xs k i h = grind (arith, common_steps, gets)
 
 -- lists with one front have its entries in common
 pub nth_cut :
@@ -32,51 +30,27 @@ nth_cut xs ys m i l e = sym (nth_front xs m i l) ∙ ap (λ (z : List _). slice_
 pub last_split :
     {X : Type 0} (xs : List X) (k : ℕ) (x : X) → k ≤ length xs → slice_get (take k xs) (k - 1) ≡ Some x →
     take k xs ≡ take (k - 1) xs ++ (x ∷ [])
-last_split [] zero x h e = absurd cc
-last_split [] (suc k) x h e = absurd (omega arith)
-last_split (y ∷ xs) zero x h e = absurd cc
-last_split (y ∷ xs) (suc zero) x h e = let q : y ≡ x = cc in ap (λ (z : _). z ∷ []) q
-last_split (y ∷ xs) (suc (suc k)) x h e =
-    let q : suc (suc k) - 1 ≡ suc k = omega arith in
-    let q' : suc k - 1 ≡ k = omega arith in
-    let e' : slice_get (take (suc k) xs) (suc k - 1) ≡ Some x =
-    ap (slice_get (take (suc k) xs)) q' ∙ (sym (ap (slice_get (y ∷ take (suc k) xs)) q) ∙ e) in
-    ap (λ (l : List _). y ∷ l)
-    (last_split xs (suc k) x (omega arith) e' ∙ ap (λ (i : ℕ). take i xs ++ (x ∷ [])) q')
-    ∙ ap (λ (i : ℕ). take i (y ∷ xs) ++ (x ∷ [])) (sym q)
+last_split xs k x h e =
+    let l = slice_get_within (take k xs) (k - 1) x e in
+    let q : k ≡ k - 1 + 1 = omega (arith, length-take k xs) in
+    let g : get_or xs (k - 1) x ≡ x =
+    sym (get_or-take k xs (k - 1) x (omega arith)) ∙ get_or_from_slice_get (take k xs) (k - 1) x x e in
+    ap (λ (j : ℕ). take j xs) q
+    ∙ take_more xs (k - 1) x (omega arith)
+    ∙ ap (λ (y : _). take (k - 1) xs ++ (y ∷ [])) g
 
 -- a front without a last is empty
 pub no_last :
     {X : Type 0} (xs : List X) (k : ℕ) → k ≤ length xs → slice_get (take k xs) (k - 1) ≡ None → take k xs ≡ []
-no_last [] zero h e = refl
-no_last [] (suc k) h e = refl
-no_last (y ∷ xs) zero h e = refl
-no_last (y ∷ xs) (suc zero) h e = absurd cc
-no_last (y ∷ xs) (suc (suc k)) h e =
-    let q : suc (suc k) - 1 ≡ suc k = omega arith in
-    let q' : suc k - 1 ≡ k = omega arith in
-    let e' =
-    no_last xs (suc k) (omega arith)
-    (ap (slice_get (take (suc k) xs)) q' ∙ (sym (ap (slice_get (y ∷ take (suc k) xs)) q) ∙ e)) in
-    absurd (omega (arith, length-take (suc k) xs, ap length e'))
+no_last xs k h e =
+    ⊎_elim (λ p. cc (p.2, e)) (λ p. nil_from_length (take k xs) (omega (arith, length-take k xs, p.0)))
+    (slice_get_cases (take k xs) (k - 1)).1
 
 -- a front that has a last has a place
 pub has_last : {X : Type 0} (k : ℕ) (xs : List X) (x : X) → slice_get (take k xs) (k - 1) ≡ Some x → 1 ≤ k
-has_last zero [] x e = absurd cc
-has_last zero (y ∷ xs) x e = absurd cc
-has_last (suc k) xs x e = omega arith
+has_last k xs x e = let l = slice_get_within (take k xs) (k - 1) x e in omega (arith, length-take k xs)
 
 -- ── an alternative written ─────────────────────────────────────────────────
-
--- one more
-more :
-    {X : Type 0} (xs ys zs : List X) (i j : ℕ) (x : X) → j ≡ i + 1 → i < length xs → take i xs ≡ ys ++ zs →
-    take j (set xs i x) ≡ ys ++ (zs ++ (x ∷ []))
-more xs ys zs i j x e h q =
-    ap (λ (k : ℕ). take k (set xs i x)) e
-    ∙ take_more_set xs i x h
-    ∙ ap (λ (l : List _). l ++ (x ∷ [])) q
-    ∙ append_assoc ys zs (x ∷ [])
 
 module _ (xs : List FactRow) (i : ℕ) (a : AltRow) where
   -- the facts with one, two, three or four of the alternative's written
@@ -93,27 +67,18 @@ module _ (xs : List FactRow) (i : ℕ) (a : AltRow) where
   wrote₄ = set (set (set (set xs i a.first) (i + 1) a.second) (i + 2) a.third) (i + 3) a.fourth
 
   one : i + 1 ≤ length xs → take (i + 1) wrote₁ ≡ take i xs ++ (a.first ∷ [])
-  one h = more xs (take i xs) [] i (i + 1) a.first refl (omega arith) (sym (append-nil (take i xs)))
+  one h = grind (arith, common_steps)
 
   two : i + 2 ≤ length xs → take (i + 2) wrote₂ ≡ take i xs ++ (a.first ∷ a.second ∷ [])
-  two h =
-      more wrote₁ (take i xs) (a.first ∷ []) (i + 1) (i + 2) a.second (omega arith)
-      (omega (arith, length-set xs i a.first)) (one (omega arith))
+  two h = grind (arith, common_steps, one (omega arith))
 
   three : i + 3 ≤ length xs → take (i + 3) wrote₃ ≡ take i xs ++ (a.first ∷ a.second ∷ a.third ∷ [])
-  three h =
-      more wrote₂ (take i xs) (a.first ∷ a.second ∷ []) (i + 2) (i + 3) a.third (omega arith)
-      (omega (arith, length-set xs i a.first, length-set wrote₁ (i + 1) a.second))
-      (two (omega arith))
+  three h = grind (arith, common_steps, two (omega arith))
 
   all_four :
       i + 4 ≤ length xs →
       take (i + 4) wrote₄ ≡ take i xs ++ (a.first ∷ a.second ∷ a.third ∷ a.fourth ∷ [])
-  all_four h =
-      more wrote₃ (take i xs) (a.first ∷ a.second ∷ a.third ∷ []) (i + 3) (i + 4) a.fourth (omega arith)
-      (omega
-      (arith, length-set xs i a.first, length-set wrote₁ (i + 1) a.second, length-set wrote₂ (i + 2) a.third))
-      (three (omega arith))
+  all_four h = grind (arith, common_steps, three (omega arith))
 
   -- the front up to the alternative's last fact
   pub put_front :
