@@ -1,10 +1,10 @@
 -- What writes leave in the counted fronts of the stores: the facts of an alternative come after the front that
 -- they are written to (`put_front`, `put_below`), and the last of a front is split off it (`last_split`).
-use Rattle.std.proofs.Common.{◌≡◌, ℕ, ◌+◌, ◌-◌, ◌<◌, ◌≤◌, Bool, true, false, cond, eqb, List, [], ◌∷◌, ◌++◌, length, get_or, take, set, Some, None, sym, refl, ap, ◌∙◌, ⊎_elim, arith, length-set, length-take}
+use Rattle.std.proofs.Common.{◌≡◌, ℕ, ◌+◌, ◌-◌, ◌<◌, ◌≤◌, Bool, true, false, cond, eqb, List, [], ◌∷◌, ◌++◌, length, take, set, Some, None, sym, refl, ap, ◌∙◌, arith, length-set, length-take}
 use Rattle.std.specs.List.{slice_get}
-use Rattle.std.proofs.lemmas.Option.{slice_get_within, get_or_from_slice_get, slice_get_cases, gets}
+use Rattle.std.proofs.lemmas.Option.{slice_get_within, gets}
 use Rattle.std.proofs.lemmas.Grind.{common_steps}
-use Rattle.std.proofs.lemmas.List.{take_more, get_or-take, nil_from_length, append-nil, take-take, take-append-le}
+use Rattle.std.proofs.lemmas.List.{take_more, append-nil, take-take, take-append-le}
 use Rattle.records.specs.declared.rows.Fact.{Fact as FactRow}
 use Rattle.rules.specs.declared.cited.Alt.{Alt as AltRow}
 use Rattle.rules.specs.Rules.{size_of, facts_of}
@@ -17,34 +17,23 @@ pub front_cut :
     {X : Type 0} (xs ys : List X) (k m : ℕ) → k ≤ m → take m xs ≡ take m ys → take k xs ≡ take k ys
 front_cut xs ys k m l e = sym (take-take k m xs l) ∙ ap (take k) e ∙ take-take k m ys l
 
--- an entry of a front
-pub nth_front : {X : Type 0} (xs : List X) (k i : ℕ) → i < k → slice_get (take k xs) i ≡ slice_get xs i
-nth_front xs k i h = grind (arith, common_steps, gets)
-
 -- lists with one front have its entries in common
 pub nth_cut :
     {X : Type 0} (xs ys : List X) (m i : ℕ) → i < m → take m xs ≡ take m ys → slice_get xs i ≡ slice_get ys i
-nth_cut xs ys m i l e = sym (nth_front xs m i l) ∙ ap (λ (z : List _). slice_get z i) e ∙ nth_front ys m i l
+nth_cut xs ys m i l e = grind (arith, common_steps, gets, ap (λ (z : List _). slice_get z i) e)
 
 -- the last of a front
 pub last_split :
     {X : Type 0} (xs : List X) (k : ℕ) (x : X) → k ≤ length xs → slice_get (take k xs) (k - 1) ≡ Some x →
     take k xs ≡ take (k - 1) xs ++ (x ∷ [])
 last_split xs k x h e =
-    let l = slice_get_within (take k xs) (k - 1) x e in
-    let q : k ≡ k - 1 + 1 = omega (arith, length-take k xs) in
-    let g : get_or xs (k - 1) x ≡ x =
-    sym (get_or-take k xs (k - 1) x (omega arith)) ∙ get_or_from_slice_get (take k xs) (k - 1) x x e in
-    ap (λ (j : ℕ). take j xs) q
-    ∙ take_more xs (k - 1) x (omega arith)
-    ∙ ap (λ (y : _). take (k - 1) xs ++ (y ∷ [])) g
+    let q : k ≡ k - 1 + 1 = let l = slice_get_within (take k xs) (k - 1) x e in omega (arith, length-take k xs) in
+    grind (arith, common_steps, gets, ap (λ (j : ℕ). take j xs) q, take_more xs (k - 1) x)
 
 -- a front without a last is empty
 pub no_last :
     {X : Type 0} (xs : List X) (k : ℕ) → k ≤ length xs → slice_get (take k xs) (k - 1) ≡ None → take k xs ≡ []
-no_last xs k h e =
-    ⊎_elim (λ p. cc (p.2, e)) (λ p. nil_from_length (take k xs) (omega (arith, length-take k xs, p.0)))
-    (slice_get_cases (take k xs) (k - 1)).1
+no_last xs k h e = grind (arith, common_steps, gets)
 
 -- a front that has a last has a place
 pub has_last : {X : Type 0} (k : ℕ) (xs : List X) (x : X) → slice_get (take k xs) (k - 1) ≡ Some x → 1 ≤ k
