@@ -47,8 +47,6 @@ module _ (K : ℕ → Option ℕ) (f : Filling) (h : Held) (o : Orderly f h) (bs
       (w : FactRow) → f.constraints_in < f.constraints →
       take (f.constraints_in + 1) (stored w).facts ≡ take f.constraints_in h.facts ++ (w ∷ [])
   more w l =
-      let p = o.few_constraints in
-      let q = o.enough.facts in
       take_more_set h.facts f.constraints_in w (omega arith)
 
   -- the draft has one constraint more
@@ -167,11 +165,7 @@ module _ (K : ℕ → Option ℕ) (f : Filling) (h : Held) (o : Orderly f h) (bs
       (leb r.sign 1 && fact_ok rows (f.labels + f.free) (fact_said r)) refl
   by_due r e told el et false q =
       refused K f h bs (option.Some (row.Constraint r)) e NotDue
-      (λ c.
-      (let l = ltb-false f.constraints_in f.constraints q in
-      let m = c.2.due in
-      let n = constraints_in f h o in
-      omega arith))
+      (λ c. omega (arith, ltb-false _ _ q, c.2.due, constraints_in f h o))
 
   by_terms :
       (r : ConstraintRow) → row_in bs ≡ option.Some (row.Constraint r) → RowTold bs (option.Some (row.Constraint r)) →
@@ -181,15 +175,9 @@ module _ (K : ℕ → Option ℕ) (f : Filling) (h : Held) (o : Orderly f h) (bs
       (cond (ltb f.constraints_in f.constraints) (constraint_added f h r) (not_added f h NotDue)))
   by_terms r e told el true q =
       refused K f h bs (option.Some (row.Constraint r)) e NotDue
-      (λ c.
-      (let l = ltb-true f.terms_in f.terms q in
-      let m = c.2.terms in
-      let n = rows_in f h o in
-      omega arith))
+      (λ c. omega (arith, ltb-true _ _ q, c.2.terms, rows_in f h o))
   by_terms r e told el false q =
-      let l = ltb-false f.terms_in f.terms q in
-      let m = o.terms_due in
-      by_due r e told el (omega arith) (ltb f.constraints_in f.constraints) refl
+      by_due r e told el (omega (arith, ltb-false _ _ q)) (ltb f.constraints_in f.constraints) refl
 
   pub constraint_exact :
       (r : ConstraintRow) → row_in bs ≡ option.Some (row.Constraint r) → RowTold bs (option.Some (row.Constraint r)) →
@@ -204,12 +192,6 @@ module _ (K : ℕ → Option ℕ) (f : Filling) (h : Held) (o : Orderly f h) (bs
           (cond (ltb f.constraints_in f.constraints) (constraint_added f h r) (not_added f h NotDue))))
       by_labels true q =
           refused K f h bs (option.Some (row.Constraint r)) e NotDue
-          (λ c.
-          (let l = ltb-true f.labels_in f.labels q in
-          let m = c.2.labels in
-          let n = codes_in f h o in
-          omega arith))
+          (λ c. omega (arith, ltb-true _ _ q, c.2.labels, codes_in f h o))
       by_labels false q =
-          let l = ltb-false f.labels_in f.labels q in
-          let m = o.labels_due in
-          by_terms r e told (omega arith) (ltb f.terms_in f.terms) refl
+          by_terms r e told (omega (arith, ltb-false _ _ q)) (ltb f.terms_in f.terms) refl

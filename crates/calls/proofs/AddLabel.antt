@@ -32,8 +32,6 @@ module _ (K : ℕ → Option ℕ) (f : Filling) (h : Held) (o : Orderly f h) (bs
       (c : ℕ) → f.labels_in < f.labels →
       take (f.labels_in + 1) (stored c).labels ≡ take f.labels_in h.labels ++ (c ∷ [])
   more c l =
-      let p = o.few_names in
-      let q = o.enough.labels in
       take_more_set h.labels f.labels_in c (omega arith)
 
   -- the draft has one code more
@@ -114,8 +112,4 @@ module _ (K : ℕ → Option ℕ) (f : Filling) (h : Held) (o : Orderly f h) (bs
       by_due true q = by_known c e told (ltb-true _ _ q) (known_by K c) refl
       by_due false q =
           refused K f h bs (option.Some (row.Label c)) e NotDue
-          (λ p.
-          (let l = ltb-false f.labels_in f.labels q in
-          let m = p.0 in
-          let n = codes_in f h o in
-          omega arith))
+          (λ p. omega (arith, ltb-false _ _ q, p.0, codes_in f h o))

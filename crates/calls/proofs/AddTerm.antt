@@ -60,8 +60,6 @@ module _ (K : ℕ → Option ℕ) (f : Filling) (h : Held) (o : Orderly f h) (bs
 
   more : (r : TermRow) → f.terms_in < f.terms → take (f.terms_in + 1) (stored r).terms ≡ before ++ (r ∷ [])
   more r l =
-      let p = o.few_terms in
-      let q = o.enough.terms in
       take_more_set h.terms f.terms_in r (omega arith)
 
   -- there are no constraints yet, so that none is read anew
@@ -192,11 +190,7 @@ module _ (K : ℕ → Option ℕ) (f : Filling) (h : Held) (o : Orderly f h) (bs
       by_test r e told el (ltb-true _ _ q) (row_ok before (f.labels + f.free) f.terms_in r) refl
   by_due r e told el false q =
       refused K f h bs (option.Some (row.Term r)) e NotDue
-      (λ c.
-      (let l = ltb-false f.terms_in f.terms q in
-      let m = c.2.due in
-      let n = rows_in f h o in
-      omega arith))
+      (λ c. omega (arith, ltb-false _ _ q, c.2.due, rows_in f h o))
 
   pub term_exact :
       (r : TermRow) → row_in bs ≡ option.Some (row.Term r) → RowTold bs (option.Some (row.Term r)) →
@@ -210,12 +204,6 @@ module _ (K : ℕ → Option ℕ) (f : Filling) (h : Held) (o : Orderly f h) (bs
           (cond (ltb f.terms_in f.terms) (term_added f h r) (not_added f h NotDue)))
       by_labels true q =
           refused K f h bs (option.Some (row.Term r)) e NotDue
-          (λ c.
-          (let l = ltb-true f.labels_in f.labels q in
-          let m = c.2.labels in
-          let n = codes_in f h o in
-          omega arith))
+          (λ c. omega (arith, ltb-true _ _ q, c.2.labels, codes_in f h o))
       by_labels false q =
-          let l = ltb-false f.labels_in f.labels q in
-          let m = o.labels_due in
-          by_due r e told (omega arith) (ltb f.terms_in f.terms) refl
+          by_due r e told (omega (arith, ltb-false _ _ q)) (ltb f.terms_in f.terms) refl

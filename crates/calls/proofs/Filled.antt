@@ -31,16 +31,10 @@ module _ (f : Filling) (h : Held) (o : Orderly f h) where
   -- how many labels, terms and constraints are in
   pub codes_in : length (read_sheet (plain_in f h)).codes ≡ f.labels_in
   codes_in =
-      let p = o.few_names in
-      let q = o.labels_due in
-      let r = o.enough.labels in
       length-take-le f.labels_in h.labels (omega arith)
 
   pub plain_rows : length (plain_in f h).rows ≡ f.terms_in
   plain_rows =
-      let p = o.few_terms in
-      let q = o.terms_due in
-      let r = o.enough.terms in
       length-take-le f.terms_in h.terms (omega arith)
 
   pub rows_in : length (read_sheet (plain_in f h)).rows ≡ f.terms_in
@@ -48,9 +42,6 @@ module _ (f : Filling) (h : Held) (o : Orderly f h) where
 
   pub constraints_in : length (read_sheet (plain_in f h)).constraints ≡ f.constraints_in
   constraints_in =
-      let p = o.few_constraints in
-      let q = o.constraints_due in
-      let r = o.enough.facts in
       length-map (plain_in f h).constraints (read_fact (plain_in f h).rows)
       ∙ length-take-le f.constraints_in h.facts (omega arith)
 

@@ -52,13 +52,11 @@ module _ (t : Counts) (h : Held) (w : Whole t h) where
   -- the branch is as long as counted, and there are as many forks
   pub facts_long : length (branch_facts t h) ≡ t.facts
   facts_long =
-      let big : 1024 ≤ length h.facts = w.enough.facts in
-      let low : t.facts ≤ 1024 = w.few_facts in omega (arith, length-take t.facts h.facts)
+      omega (arith, length-take t.facts h.facts)
 
   pub forks_long : length (forks_of t h) ≡ t.forks
   forks_long =
-      let big : 64 ≤ length h.forks = w.enough.forks in
-      let low : t.forks ≤ 64 = w.few_forks in omega (arith, length-take t.forks h.forks)
+      omega (arith, length-take t.forks h.forks)
 
 module _ (t : Counts) (h : Held) (w : Whole t h) (un : t.verdict ≡ verdict.Undecided) (room : t.granted < 1000000) where
   -- facts and forks in the stores that land are followed
@@ -69,8 +67,6 @@ module _ (t : Counts) (h : Held) (w : Whole t h) (un : t.verdict ≡ verdict.Und
       Lands (plain_of t h) t.constraints x m n F G →
       Follows t h (counted t t.verdict m n k) (with_facts (with_forks h ks) xs) x
   lands_follow m n k xs ks x F G lx lk ec eF eG few l =
-      let bigf : 1024 ≤ length h.facts = w.enough.facts in
-      let big : 64 ≤ length h.forks = w.enough.forks in
       let same : plain_of t h ≡ plain_of (counted t t.verdict m n k) (with_facts (with_forks h ks) xs) =
       λ i. record { codes = codes_of t h; free = t.free; rows = rows_of t h; constraints = sym ec i } in
       let fair =

@@ -91,7 +91,6 @@ module _
       alternatives_of y.rule ≡ 1 → Names → Facts →
       Right K t h x (Ok (outcome.Adds (grown t.facts t.names a)))
   adds one names facts =
-      let big : 1024 ≤ length h.facts = w.enough.facts in
       let l = first_facts facts in
       granted t h w un room K x y ep (outcome.Adds (grown t.facts t.names a))
       (with_room names facts (λ l. absurd (omega arith)))
@@ -107,8 +106,6 @@ module _
       eqb (alternatives_of y.rule) 1 ≡ false → t.forks < 64 → Names → Facts →
       Right K t h x (Ok (outcome.Forks (grown t.facts t.names a) (forked t y.rule x) (t.forks + 1)))
   forks z₁ few names facts =
-      let bigf : 1024 ≤ length h.facts = w.enough.facts in
-      let big : 64 ≤ length h.forks = w.enough.forks in
       let l = first_facts facts in
       let m = made K (codes_of t h) (rows_of t h) (branch_facts t h) x y ep in
       let two = forking y.rule z₀ z₁ in

@@ -197,9 +197,7 @@ module _
 
   next_step : (onward f).next ≡ f.next + 1
   next_step =
-      let few = few_alternatives f.rule in
-      let left : f.next < alternatives_of f.rule = fit.left in
-      ap (λ (b : Bool). cond b (f.next + 1) 3) (lt-ltb f.next 3 (omega arith))
+      ap (λ (b : Bool). cond b (f.next + 1) 3) (lt-ltb f.next 3 (omega (arith, few_alternatives f.rule)))
 
   -- the front of the fork, and the facts after its next alternative
   abbrev cut : List FactRow
@@ -209,7 +207,7 @@ module _
   after = take f.facts F ++ facts_of next_of
 
   cut_long : f.facts ≤ length cut
-  cut_long = let l : f.facts ≤ m = fit.front in omega (arith, length-take f.facts F)
+  cut_long = omega (arith, length-take f.facts F)
 
   front_kept : take f.facts F ≡ take f.facts after
   front_kept =
@@ -295,7 +293,6 @@ module _
       Lands P c (resume (read_forks P F (G ++ (f ∷ [])) [])) (f.facts + size_of next_of)
       (f.names + next_of.fresh) (take f.facts F ++ facts_of next_of) (left_forks b)
   resume_lands b q =
-      let below : c ≤ f.facts = fit.constraints_below in
       record {
         reads = resumed_reads b q ∙ sym (ap resume (forks_more P F G f []));
         fair = next_has (λ (z : AltRow). Fair P (take f.facts F ++ alt_facts z) (f.names + z.fresh)) fit.fair;

@@ -62,7 +62,7 @@ module _
 
   few_codes : length (read_sheet (plain_of t h)).codes ≤ t.names
   few_codes =
-      let l : length (read_sheet (plain_of t h)).codes + t.free ≤ t.names = (live t h w un).fair.named in omega arith
+      omega (arith, (live t h w un).fair.named)
 
   exactly :
       length rs ≡ n →
@@ -75,7 +75,6 @@ module _
   -- a model that is granted keeps all, and its representatives are read back from their store
   opens : length rs ≡ n → t.granted < 1000000 → Passes → LeftExact (opened t h rs)
   opens l room p =
-      let big : 64 ≤ length h.representatives = w.enough.representatives in
       let at : length rs ≡ t.names = p.0.count in (
         record {
           enough = record {

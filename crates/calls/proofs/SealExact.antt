@@ -33,9 +33,6 @@ module _ (K : ℕ → Option ℕ) (f : Filling) (h : Held) (o : Orderly f h) whe
   all_in :
       rows_due f ≡ 0 → (f.labels_in ≡ f.labels) × (f.terms_in ≡ f.terms) × (f.constraints_in ≡ f.constraints)
   all_in e =
-      let l = o.labels_due in
-      let t = o.terms_due in
-      let c = o.constraints_due in
       (omega arith, omega arith, omega arith)
 
   module _
@@ -78,8 +75,6 @@ module _ (K : ℕ → Option ℕ) (f : Filling) (h : Held) (o : Orderly f h) whe
 
     whole : Whole (new_trial f) h
     whole =
-        let n = o.few_names in
-        let c = o.few_constraints in
         record {
           enough = o.enough;
           few_sheet_names = o.few_names;
