@@ -1,7 +1,8 @@
 -- A term row, or a constraint, that fits passes its tests (`row_passes`, `fact_passes`).
-use Rattle.std.proofs.Common.{◌≡◌, ℕ, zero, suc, ◌+◌, ◌<◌, ◌≤◌, Bool, true, false, cond, eqb, ltb, leb, List, [], ◌∷◌, length, get_or, sym, refl, ◌∙◌, subst, ap₂, arith, ltb-false, ltb-true, lt-ltb, eq-eqb, le-leb}
+use Rattle.std.proofs.Common.{◌≡◌, ℕ, ◌+◌, ◌<◌, ◌≤◌, Bool, true, false, cond, eqb, ltb, leb, List, length, get_or, sym, refl, ◌∙◌, subst, ap₂, arith, ltb-false, ltb-true, lt-ltb, eq-eqb, le-leb}
 use Rattle.std.proofs.lemmas.Bool.{and_from}
 use Rattle.std.specs.List.{AllByRecursion}
+use Rattle.std.proofs.ByRecursion.{All-get_or}
 use Rattle.std.proofs.lemmas.List.{get_or_past}
 use Rattle.records.specs.declared.rows.Fact.{Fact as FactRow}
 use Rattle.records.specs.declared.rows.TermRow.{TermRow}
@@ -16,19 +17,13 @@ use Rattle.calls.specs.Tests.{place_ok, places, in_tests, same_tests, alike_test
 use Rattle.calls.proofs.Truth.{all_hold}
 use Rattle.calls.proofs.Rows.{arity_of, term_below}
 
--- an element of a list of numbers below n
-under : (n : ℕ) (u : List ℕ) (i : ℕ) → AllByRecursion (λ e. e < n) u → i < length u → get_or u i 0 < n
-under n [] i h l = absurd (omega arith)
-under n (x ∷ u) zero h l = h.0
-under n (x ∷ u) (suc i) h l = under n u i h.1 (omega arith)
-
 -- place i of a tuple of names below n, of arity k
 place_holds :
     (n k : ℕ) (u : List ℕ) (i : ℕ) → length u ≡ k → AllByRecursion (λ e. e < n) u → place_ok n k i (get_or u i 0) ≡ true
 place_holds n k u i e h = go (ltb i k) refl
   where
     go : (b : Bool) → ltb i k ≡ b → cond b (ltb (get_or u i 0) n) (eqb (get_or u i 0) 0) ≡ true
-    go true q = let l = ltb-true i k q in lt-ltb (get_or u i 0) n (under n u i h (omega arith))
+    go true q = let l = ltb-true i k q in lt-ltb (get_or u i 0) n (All-get_or (λ e. e < n) u i 0 (omega arith) h)
     go false q = let l = ltb-false i k q in eq-eqb (get_or u i 0) 0 (get_or_past u i 0 (omega arith))
 
 places_hold :

@@ -1,6 +1,7 @@
 -- The room tests of a step speak of all its alternatives (`room_told`).
-use Rattle.std.proofs.Common.{◌≡◌, ℕ, ◌+◌, ◌≤◌, Bool, false, cond, ◌||◌, eqb, ltb, ◌↔◌, List, [], ◌∷◌, length, sym, refl, subst, arith, ltb-false, le-ltb}
+use Rattle.std.proofs.Common.{◌≡◌, ℕ, ◌+◌, ◌≤◌, Bool, false, cond, ◌||◌, eqb, ltb, ◌↔◌, List, [], ◌∷◌, length, refl, arith, ltb-false, le-ltb}
 use Rattle.std.specs.List.{AllByRecursion}
+use Rattle.std.proofs.ByRecursion.{All-weaker}
 use Rattle.std.proofs.lemmas.Bool.{or_parts}
 use Rattle.records.specs.declared.rule.Rule.{Rule as RuleName}
 use Rattle.records.specs.declared.rule.Rule.TheVariants as R
@@ -84,19 +85,10 @@ sized a = go (eqb a.count 0) (eqb a.count 1) (eqb a.count 2) (eqb a.count 3)
 resized :
     (m l : ℕ) (xs : List AltRow) →
     AllByRecursion (λ (a : AltRow). m + size_of a ≤ l) xs ↔ AllByRecursion (λ (a : AltRow). m + length (alt_facts a) ≤ l) xs
-resized m l xs = (to xs, from xs)
-  where
-    to :
-        (xs : List AltRow) → AllByRecursion (λ (a : AltRow). m + size_of a ≤ l) xs →
-        AllByRecursion (λ (a : AltRow). m + length (alt_facts a) ≤ l) xs
-    to [] h = tt
-    to (a ∷ xs) h = (subst (λ (k : ℕ). m + k ≤ l) (sized a) h.0, to xs h.1)
-
-    from :
-        (xs : List AltRow) → AllByRecursion (λ (a : AltRow). m + length (alt_facts a) ≤ l) xs →
-        AllByRecursion (λ (a : AltRow). m + size_of a ≤ l) xs
-    from [] h = tt
-    from (a ∷ xs) h = (subst (λ (k : ℕ). m + k ≤ l) (sym (sized a)) h.0, from xs h.1)
+resized m l xs = (
+  All-weaker _ _ (λ a h. omega (arith, sized a)) xs,
+  All-weaker _ _ (λ a h. omega (arith, sized a)) xs,
+)
 
 pub room_told : RoomTold
 room_told = (
