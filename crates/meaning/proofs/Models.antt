@@ -49,18 +49,7 @@ module _ (K : ℕ → Option ℕ) (S : Sheet) where
 
 module _ (K : ℕ → Option ℕ) (S : Sheet) (n : ℕ) (rs : List ℕ) (lawful : Lawful K S n rs) where
   idem : (e : ℕ) → rep rs (rep rs e) ≡ rep rs e
-  idem e = go (dec_lt e n) (dec_lt 0 n)
-    where
-      go : Dec (e < n) → Dec (0 < n) → rep rs (rep rs e) ≡ rep rs e
-      go (yes h) d = lawful.fixed e h
-      go (no h) (yes z) =
-          let q : rep rs e ≡ 0 = get_or_past rs e 0 (omega (arith, lawful.count)) in
-          let z' : rep rs 0 ≡ 0 = omega (arith, lawful.low 0 z) in
-          ap (rep rs) q ∙ z' ∙ sym q
-      go (no h) (no z) =
-          let q : rep rs e ≡ 0 = get_or_past rs e 0 (omega (arith, lawful.count)) in
-          let z' : rep rs 0 ≡ 0 = get_or_past rs 0 0 (omega (arith, lawful.count)) in
-          ap (rep rs) q ∙ z' ∙ sym q
+  idem e = grind (arith, lawful.fixed e, lawful.low 0, lawful.count, get_or_past rs e 0, get_or_past rs 0 0)
 
   -- the names that represent themselves
   Rep : Type 0

@@ -1,5 +1,6 @@
 -- Decimal numerals: their digits step by step, their lengths, and the value of a numeral is its number.
 use Rattle.std.proofs.Common.{◌≡◌, ℕ, zero, suc, ◌+◌, ◌-◌, ◌/◌, ◌%◌, ◌^◌, ◌<◌, ◌≤◌, eqb, List, [], ◌∷◌, ◌++◌, map, length, decimal, sym, refl, ap, ◌∙◌, arith}
+use Rattle.std.specs.List.{AllByRecursion}
 use Rattle.std.specs.Int.Digits.{digits_of, number_from_digits}
 use Rattle.std.proofs.lemmas.Int.Digits.{digits_of_step, length-digits_of-le, number_digits_of}
 use Rattle.std.proofs.lemmas.List.{map_push, length-map, length_push}
@@ -52,8 +53,7 @@ values_numerals (n ∷ ns) = ap (λ z. z ∷ map value (map numeral ns)) (value_
 
 -- each byte is above 32
 abbrev pub Solid : List ℕ → Type 0
-Solid [] = Unit {0}
-Solid (b ∷ bs) = (32 < b) × Solid bs
+Solid bs = AllByRecursion (λ b. 32 < b) bs
 
 solid_digits : (ds : List ℕ) → Solid (map (λ d. 48 + d) ds)
 solid_digits [] = tt

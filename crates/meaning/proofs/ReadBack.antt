@@ -1,7 +1,8 @@
 -- Reading the text of any lines gives those lines back, and lines that are read have these bytes as their text.
 use Rattle.std.proofs.Common.{◌≡◌, ℕ, ◌≤◌, Bool, true, false, cond, eqb, List, [], ◌∷◌, ◌++◌, map, sym, refl, ap, ◌∙◌, append_assoc, append-nil, arith}
 use mathlib.Core.Option.{none, some}
-use Rattle.std.specs.List.{flat_map}
+use Rattle.std.specs.List.{AllByRecursion, flat_map}
+use Rattle.std.proofs.ByRecursion.{All-append, All-weaker}
 use Rattle.std.proofs.lemmas.Bool.{ne_eqb, eq-eqb, eqb-true, cond-false, cond-true, and_parts, and_from}
 use Rattle.meaning.specs.Text.{Line, closed, opened, name, inside, refused, numeral, word, numbers, spaced, body, text}
 use Rattle.meaning.specs.Reading.{same, on_first, parts, front, value, by_word, from_parts, guess, ReadsBack, ReadsOnly}
@@ -9,16 +10,10 @@ use Rattle.meaning.proofs.Numerals.{Solid, solid_numeral, value_numeral, values_
 
 -- no byte is c
 abbrev pub Without : ℕ → List ℕ → Type 0
-Without c [] = Unit {0}
-Without c (b ∷ bs) = (b ≡ c → ⊥) × Without c bs
-
-without-append : (c : ℕ) (xs ys : List ℕ) → Without c xs → Without c ys → Without c (xs ++ ys)
-without-append c [] ys p q = q
-without-append c (x ∷ xs) ys p q = (p.0, without-append c xs ys p.1 q)
+Without c bs = AllByRecursion (λ b. b ≡ c → ⊥) bs
 
 solid_without : (c : ℕ) → c ≤ 32 → (xs : List ℕ) → Solid xs → Without c xs
-solid_without c h [] p = tt
-solid_without c h (x ∷ xs) p = ((λ e. let l = p.0 in omega arith), solid_without c h xs p.1)
+solid_without c h xs p = All-weaker _ _ (λ b l e. omega arith) xs p
 
 parts_last : (c : ℕ) (xs : List ℕ) → Without c xs → parts c xs ≡ xs ∷ []
 parts_last c [] p = refl
@@ -34,17 +29,14 @@ parts_body w (n ∷ ns) p = parts_first 32 w (body (numeral n) ns) (solid_withou
 
 without_spaced : (ns : List ℕ) → Without 10 (flat_map spaced ns)
 without_spaced [] = tt
-without_spaced (n ∷ ns) = ((λ e. omega arith), without-append 10 (numeral n) (flat_map spaced ns) (solid_without 10 (omega arith) (numeral n) (solid_numeral n)) (without_spaced ns))
+without_spaced (n ∷ ns) = ((λ e. omega arith), All-append _ (numeral n) (flat_map spaced ns) (solid_without 10 (omega arith) (numeral n) (solid_numeral n)) (without_spaced ns))
 
 solid_word : (l : Line) → Solid (word l)
-solid_word (closed g) = (omega arith, (omega arith, (omega arith, (omega arith, (omega arith, (omega arith, tt))))))
-solid_word (opened g) = (omega arith, (omega arith, (omega arith, (omega arith, tt))))
-solid_word (name e r) = (omega arith, (omega arith, (omega arith, (omega arith, tt))))
-solid_word (inside t us) = (omega arith, (omega arith, tt))
-solid_word (refused n r d) = (omega arith, (omega arith, (omega arith, (omega arith, (omega arith, (omega arith, (omega arith, tt)))))))
+solid_word (closed g) = search arith
+solid_word _ = search arith
 
 without_body : (l : Line) → Without 10 (body (word l) (numbers l))
-without_body l = without-append 10 (word l) (flat_map spaced (numbers l)) (solid_without 10 (omega arith) (word l) (solid_word l)) (without_spaced (numbers l))
+without_body l = All-append _ (word l) (flat_map spaced (numbers l)) (solid_without 10 (omega arith) (word l) (solid_word l)) (without_spaced (numbers l))
 
 parts_text : (ls : List Line) → parts 10 (text ls) ≡ map (λ l. body (word l) (numbers l)) ls ++ ([] ∷ [])
 parts_text [] = refl
