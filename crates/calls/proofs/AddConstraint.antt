@@ -55,21 +55,7 @@ module _ (K : ℕ → Option ℕ) (f : Filling) (h : Held) (o : Orderly f h) (bs
       drafted (read_draft f h) (with_constraint (read_draft f h).sheet (read_fact rows w))
       ≡ read_draft (one_constraint f) (stored w)
   draft_is w l =
-      let old = take f.constraints_in h.facts in
-      let ec = sym (ap (map (read_fact rows)) (more w l) ∙ map_push (read_fact rows) old w) in
-      λ i.
-      record {
-        labels = f.labels;
-        terms = f.terms;
-        constraints = f.constraints;
-        sheet =
-            record {
-              codes = (read_draft f h).sheet.codes;
-              free = f.free;
-              rows = (read_draft f h).sheet.rows;
-              constraints = ec i;
-            };
-      }
+      cc (ap (map (read_fact rows)) (more w l), map_push (read_fact rows) (take f.constraints_in h.facts) w)
 
   -- each constraint passed
   passed :

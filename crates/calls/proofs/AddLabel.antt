@@ -39,19 +39,7 @@ module _ (K : ℕ → Option ℕ) (f : Filling) (h : Held) (o : Orderly f h) (bs
       (c : ℕ) → f.labels_in < f.labels →
       drafted (read_draft f h) (with_code (read_draft f h).sheet c) ≡ read_draft (one_label f) (stored c)
   draft_is c l =
-      λ i.
-      record {
-        labels = f.labels;
-        terms = f.terms;
-        constraints = f.constraints;
-        sheet =
-            record {
-              codes = sym (more c l) i;
-              free = f.free;
-              rows = (read_draft f h).sheet.rows;
-              constraints = (read_draft f h).sheet.constraints;
-            };
-      }
+      cc (more c l)
 
   -- all stays in order: there are neither terms nor constraints yet
   orderly : (c : ℕ) → f.labels_in < f.labels → Orderly (one_label f) (stored c)

@@ -77,21 +77,11 @@ module _ (K : ℕ → Option ℕ) (f : Filling) (h : Held) (o : Orderly f h) (bs
       (r : TermRow) → f.terms_in < f.terms →
       drafted (read_draft f h) (with_row (read_draft f h).sheet (read_row r)) ≡ read_draft (one_term f) (stored r)
   draft_is r l =
-      let er = sym (ap (map read_row) (more r l) ∙ map_push read_row before r) in
-      let ec = read_none l before (take (f.terms_in + 1) (stored r).terms) in
-      λ i.
-      record {
-        labels = f.labels;
-        terms = f.terms;
-        constraints = f.constraints;
-        sheet =
-            record {
-              codes = (read_draft f h).sheet.codes;
-              free = f.free;
-              rows = er i;
-              constraints = ec i;
-            };
-      }
+      cc (
+        ap (map read_row) (more r l),
+        map_push read_row before r,
+        read_none l before (take (f.terms_in + 1) (stored r).terms),
+      )
 
   -- each row passed as it came
   passed :

@@ -134,13 +134,7 @@ module _ (t : Counts) (h : Held) (w : Whole t h) (un : t.verdict ≡ verdict.Und
       good = w.good;
       live = tt;
     },
-    λ i. record {
-      sheet = read_sheet (plain_of t h);
-      state = e i;
-      granted = t.granted + 1;
-      denied = t.denied;
-      verdict = subject.verdict_at (e i);
-    },
+    cc,
   )
 
   -- ── a step with a plan ───────────────────────────────────────────────────

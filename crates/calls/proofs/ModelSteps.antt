@@ -1,6 +1,6 @@
 -- A model is granted exactly where the subject has a case for its bytes, given that its answer is right
 -- (`model_step_exact`); with that, every step is (`step_exact`).
-use Rattle.std.proofs.Common.{◌≡◌, ℕ, ◌+◌, ◌<◌, ◌≤◌, Bool, true, false, cond, eqb, leb, ◌↔◌, List, ◌∷◌, length, drop, Ok, Err, Result, sym, refl, ap, ◌∙◌, subst, ⊎_elim, arith, length-append, length-drop, eqb-true, leb-false, leb-true}
+use Rattle.std.proofs.Common.{◌≡◌, ℕ, ◌<◌, ◌≤◌, Bool, true, false, cond, eqb, leb, ◌↔◌, List, ◌∷◌, length, drop, Ok, Err, Result, sym, refl, ap, ◌∙◌, subst, ⊎_elim, arith, length-append, length-drop, eqb-true, leb-false, leb-true}
 use mathlib.Core.Option.{Option}
 use borrow.Author.Tests.{eqb-false}
 use Rattle.std.proofs.lemmas.List.{take_at}
@@ -107,13 +107,7 @@ module _
             (sym (read_model bs n rs e))
             (subst
             (λ (z : subject.Trial). Grants K (trying (read_trial t h)) (subject.step (77 ∷ 68 ∷ n ∷ rs)) (trying z))
-            (λ i. record {
-              sheet = read_sheet (plain_of t h);
-              state = runs K t h bs w un i;
-              granted = t.granted + 1;
-              denied = t.denied;
-              verdict = OPEN (sym (take_at rs (drop (length rs) h.representatives) t.names at) i);
-            })
+            (cc (runs K t h bs w un, take_at rs (drop (length rs) h.representatives) t.names at))
             (model_step n rs (no_verdict K t h bs w un) (runs K t h bs w un) room l p.0 p.1 p.2)),
       )
 

@@ -6,12 +6,11 @@ use Rattle.records.specs.declared.refusal.Refusal.{Refusal}
 use Rattle.records.specs.declared.verdict.Verdict.{Verdict}
 use Rattle.records.specs.declared.verdict.Verdict.TheVariants as verdict
 use Rattle.meaning.specs.Mixes.{Stage, trying, Call, add, seal, step, settle}
-use Rattle.meaning.specs.Mixes.{Turn, Grants, Goes, granted, denied, denied_at, Mix, end, next, counted, one_more}
+use Rattle.meaning.specs.Mixes.{Turn, Grants, Goes, granted, denied, denied_at, Mix, end, next, counted}
 use Rattle.calls.specs.Stores.{Held}
 use Rattle.calls.specs.Sheets.{Filling, Counts, seal_of}
 use Rattle.calls.specs.RuleSteps.{denied_once}
-use Rattle.calls.specs.Trials.{plain_of, settle_of}
-use Rattle.calls.specs.Reading.{read_sheet}
+use Rattle.calls.specs.Trials.{settle_of}
 use Rattle.calls.specs.Views.{Orderly, Whole, LiveBy, state_by, verdict_by, read_trial}
 use Rattle.calls.specs.Exact.{Denied, AddExact, AddIsExact, SealExact, SealIsExact, StepExact, StepIsExact, SettleExact}
 use Rattle.calls.specs.Exact.{SettleIsExact}
@@ -62,13 +61,7 @@ verdict_denied t h _ = refl
 
 read_denied : (t : Counts) (h : Held) → trying (read_trial (denied_once t) h) ≡ trying (counted (read_trial t h))
 read_denied t h =
-    λ i. trying (record {
-      sheet = read_sheet (plain_of t h);
-      state = state_denied t h t.verdict i;
-      granted = t.granted;
-      denied = one_more t.denied;
-      verdict = verdict_denied t h t.verdict i;
-    })
+    cc (state_denied t h t.verdict, verdict_denied t h t.verdict)
 
 module _ (single : Single) where
   -- a granted call
