@@ -1,5 +1,5 @@
 -- A step has a plan exactly where a rule of the calculus applies, with the same alternatives (`bridged`).
-use Rattle.std.proofs.Common.{◌≡◌, ℕ, ◌+◌, ◌≤◌, Bool, true, false, cond, eqb, List, [], ◌∷◌, ◌++◌, map, Some, Ok, Err, Result, sym, refl, ap, ◌∙◌, subst, ap₂, arith, eq-eqb, eqb-true}
+use Rattle.std.proofs.Common.{◌≡◌, ℕ, ◌+◌, ◌≤◌, Bool, true, false, cond, eqb, List, [], ◌∷◌, ◌++◌, map, Some, Ok, Result, sym, refl, ap, ◌∙◌, subst, ap₂, arith, eq-eqb, eqb-true}
 use Rattle.std.proofs.lemmas.Bool.{and_from, and_parts}
 use mathlib.Core.Option.{Option, some}
 use Rattle.std.specs.List.{AllByRecursion, slice_get}
@@ -8,7 +8,6 @@ use Rattle.records.specs.declared.rows.Fact.{Fact as FactRow}
 use Rattle.records.specs.declared.rows.Step.{Step}
 use Rattle.records.specs.declared.rule.Rule.{Rule as RuleName}
 use Rattle.records.specs.declared.refusal.Refusal.{Refusal}
-use Rattle.records.specs.declared.refusal.Refusal.TheVariants.{NotMet}
 use Rattle.rules.specs.declared.cited.Alt.{Alt as AltRow}
 use Rattle.rules.specs.declared.cited.Cited.{Cited}
 use Rattle.rules.specs.declared.cited.Plan.{Plan}
@@ -16,7 +15,7 @@ use Rattle.rules.specs.Facts.{no_fact}
 use Rattle.rules.specs.Rules.{line_met}
 use Rattle.records.specs.Kinds.{rule_number, rule_of}
 use Rattle.rules.specs.Looked.{uses, untouched, looked, cited_by, zeros_kept}
-use Rattle.rules.specs.Looked.{plan_q, plan_p, plan_rule, planned}
+use Rattle.rules.specs.Looked.{planned}
 use Rattle.meaning.specs.Terms.{Fact, names}
 use Rattle.meaning.specs.Calculus.{Alt, Rule, At, alone, Cites, cites_none, cites_one, cites_two}
 use Rattle.calls.specs.Reading.{read_fact, write_fact, write_alt, read_alt, alt_facts, Plain, read_sheet, FactFits}
@@ -82,11 +81,7 @@ module _ (K : ℕ → Option ℕ) (P : Plain) (good : Good P) where
         line_met r (cites r x f g) ≡ true →
         plan_of x ≡ Ok (record { rule = r; cited = cites r x f g })
     make x r f g en hp hq ht hw m =
-        ap (plan_rule K P.codes P.rows facts x) (ap rule_of (sym en) ∙ named r)
-        ∙ ap (plan_p K P.codes P.rows facts r x) hp.0
-        ∙ ap (plan_q K P.codes P.rows r x f) hq.0
-        ∙ ap (λ (z : Bool). cond z (Ok (record { rule = r; cited = cites r x f g })) (Err NotMet))
-        (and_from _ _ (and_from _ _ hp.1 (and_from _ _ hq.1 (and_from _ _ ht hw))) m)
+        cc (ap rule_of (sym en) ∙ named r, hp.0, hq.0, and_from _ _ (and_from _ _ hp.1 (and_from _ _ hq.1 (and_from _ _ ht hw))) m)
 
     look_none : (b : Bool) (p : ℕ) → b ≡ false → p ≡ 0 → Looks b p no_fact
     look_none b p e z = (ap (λ (c : Bool). looked c facts p) e, ap₂ untouched e z)

@@ -1,5 +1,5 @@
 -- What is read from bytes says which bytes they are (`header_told`, `row_told`).
-use Rattle.std.proofs.Common.{◌≡◌, ℕ, zero, suc, Bool, true, false, cond, eqb, List, [], ◌∷◌, length, Some, None, Option, refl, ap, ◌∙◌, arith, eqb-true}
+use Rattle.std.proofs.Common.{◌≡◌, ℕ, zero, suc, Bool, true, false, cond, eqb, List, [], ◌∷◌, length, Some, None, Option, refl, ap, arith, eqb-true}
 use Rattle.std.proofs.lemmas.Bool.{and_parts}
 use Rattle.records.specs.declared.rows.Header.{Header}
 use Rattle.records.specs.declared.rows.TermRow.{TermRow}
@@ -54,8 +54,7 @@ spelt k x y bs e =
     let q = and_parts (eqb (byte bs 0) x) (eqb (byte bs 1) y) p.1 in
     let ex = eqb-true (byte bs 0) x q.0 in
     let ey = eqb-true (byte bs 1) y q.1 in
-    listed (suc (suc k)) bs (eqb-true _ _ p.0)
-    ∙ (λ i. ex i ∷ ey i ∷ places k (λ j. byte bs (suc (suc j))))
+    cc (listed (suc (suc k)) bs (eqb-true _ _ p.0))
 
 -- ── what is told ───────────────────────────────────────────────────────────
 

@@ -130,11 +130,7 @@ module _ (K : ℕ → Option ℕ) (t : Counts) (h : Held) (w : Whole t h) (bs : 
       (subst (λ (b : Branch). Ap b x.alts) (sym at_x) x.applies)
       (subst (λ (b : Branch). Ap b y.alts) (sym at_y) y.applies) in
       let forks_one : x.forks ≡ y.forks = cc (x.state, y.state) in
-      x.leads
-      ∙ ap (λ (b : Branch). trying (moved T (apply b x.alts x.forks))) (sym at_x ∙ at_y)
-      ∙ ap (λ (a : List Alt). trying (moved T (apply y.branch a x.forks))) alts_one
-      ∙ ap (λ (f : List Fork). trying (moved T (apply y.branch y.alts f))) forks_one
-      ∙ sym y.leads
+      cc (x.leads, y.leads)
 
   steps_one :
       (st st' : Stage) → RuleLed K (read_trial t h) bs st ⊎ ModelLed (read_trial t h) bs st →

@@ -1,7 +1,7 @@
 -- What a step by a rule is right to come to (`Right`): where it is granted the rule applies with room, and
 -- numbers and stores then read as the state that its alternatives bring; where it is refused no rule applies
 -- with room. Facts and forks that land as lists are followed in the stores (`lands_follow`).
-use Rattle.std.proofs.Common.{◌≡◌, ℕ, ◌+◌, ◌<◌, ◌≤◌, List, [], length, take, Ok, Err, Result, sym, ap, ◌∙◌, subst, arith, length-take}
+use Rattle.std.proofs.Common.{◌≡◌, ℕ, ◌<◌, ◌≤◌, List, [], length, take, Ok, Err, Result, sym, ◌∙◌, subst, arith, length-take}
 use mathlib.Core.Option.{Option}
 use Rattle.records.specs.declared.rows.Fact.{Fact as FactRow}
 use Rattle.records.specs.declared.rows.Step.{Step}
@@ -15,13 +15,13 @@ use Rattle.rules.specs.Looked.{planned}
 use Rattle.meaning.specs.Calculus.{Alt, Fork, State, running, closed, apply}
 use Rattle.meaning.specs.Mixes.{Room}
 use Rattle.meaning.specs.Mixes as subject
-use Rattle.calls.specs.Reading.{Plain, read_sheet, Good}
+use Rattle.calls.specs.Reading.{Plain, Good}
 use Rattle.calls.specs.Bridge.{read_branch, plan_alts, Fair, AppliesTo}
 use Rattle.calls.specs.Stores.{Held, with_facts, with_forks}
 use Rattle.calls.specs.Sheets.{Counts}
 use Rattle.calls.specs.RuleSteps.{codes_of, rows_of, branch_facts, forks_of, counted, taken}
 use Rattle.calls.specs.Trials.{plain_of, branch_of}
-use Rattle.calls.specs.Views.{read_forks, state_of, state_by, verdict_by, read_trial, Stacked, Live, LiveBy, Whole}
+use Rattle.calls.specs.Views.{read_forks, state_of, read_trial, Stacked, Live, LiveBy, Whole}
 use Rattle.calls.proofs.Bridge.{bridged}
 use Rattle.calls.proofs.Landings.{Lands}
 
@@ -67,8 +67,7 @@ module _ (t : Counts) (h : Held) (w : Whole t h) (un : t.verdict ≡ verdict.Und
       Lands (plain_of t h) t.constraints x m n F G →
       Follows t h (counted t t.verdict m n k) (with_facts (with_forks h ks) xs) x
   lands_follow m n k xs ks x F G lx lk ec eF eG few l =
-      let same : plain_of t h ≡ plain_of (counted t t.verdict m n k) (with_facts (with_forks h ks) xs) =
-      λ i. record { codes = codes_of t h; free = t.free; rows = rows_of t h; constraints = sym ec i } in
+      let same : plain_of t h ≡ plain_of (counted t t.verdict m n k) (with_facts (with_forks h ks) xs) = cc in
       let fair =
       subst (λ (z : Plain). Fair z (take m xs) n) same
       (subst (λ (z : List FactRow). Fair (plain_of t h) z n) (sym eF) l.fair) in
@@ -101,19 +100,7 @@ module _ (t : Counts) (h : Held) (w : Whole t h) (un : t.verdict ≡ verdict.Und
               (λ (v : Verdict). LiveBy v (counted t t.verdict m n k) (with_facts (with_forks h ks) xs))
               (sym un) (record { fair = fair; stacked = stacked });
         },
-        λ i. record {
-          sheet = read_sheet (sym same i);
-          state =
-              (ap (λ (v : Verdict). state_by v (counted t t.verdict m n k) (with_facts (with_forks h ks) xs)) un
-              ∙ state)
-              i;
-          granted = t.granted + 1;
-          denied = t.denied;
-          verdict =
-              (ap (λ (v : Verdict). verdict_by v (counted t t.verdict m n k) (with_facts (with_forks h ks) xs)) un
-              ∙ ap subject.verdict_at state)
-              i;
-        },
+        cc (un, same, state),
       )
 
   -- the last branch closes

@@ -11,7 +11,7 @@ use Rattle.calls.specs.Reading.{Plain, alt_facts}
 use Rattle.calls.specs.Passing.{alt_rows}
 use Rattle.calls.specs.Bridge.{Fair}
 use Rattle.calls.specs.RuleSteps.{or_none, cited_again}
-use Rattle.calls.specs.Views.{cited_at, fork_with, read_fork, read_forks, ForkFits, Stacked, no_fork, over}
+use Rattle.calls.specs.Views.{cited_at, read_fork, read_forks, ForkFits, Stacked, no_fork, over}
 use Rattle.meaning.proofs.RuleFits.{run_length}
 use Rattle.calls.proofs.Fronts.{front_cut, nth_cut}
 
@@ -72,19 +72,19 @@ module _ (P : Plain) where
     fork_same cs ds m f h e =
         let en = front_cut cs ds f.facts m h.front e in
         let ep = nth_cut cs ds f.facts f.p h.cites_below en in
-        λ i. fork_with P f (en i) (cited_again P.rows (or_none (ep i)) f.t)
+        cc
 
     pub forks_same :
         (cs ds : List FactRow) (m : ℕ) (fs : List ForkRow) (read : List Fork) → Stacked P cs c m fs →
         take m cs ≡ take m ds → read_forks P cs fs read ≡ read_forks P ds fs read
     forks_same cs ds m fs read no_fork e = refl
     forks_same cs ds m fs read (over gs f q rest fit) e =
-        ap (λ (z : List ForkRow). read_forks P cs z read) q
-        ∙ forks_more cs gs f read
-        ∙ ap₂ ◌∷◌ (fork_same cs ds m f fit e)
-        (forks_same cs ds f.facts gs read rest (front_cut cs ds f.facts m fit.front e))
-        ∙ sym (forks_more ds gs f read)
-        ∙ ap (λ (z : List ForkRow). read_forks P ds z read) (sym q)
+        cc (
+          forks_more cs gs f read,
+          forks_more ds gs f read,
+          fork_same cs ds m f fit e,
+          forks_same cs ds f.facts gs read rest (front_cut cs ds f.facts m fit.front e),
+        )
 
     pub fits_moved :
         (cs ds : List FactRow) (m m' : ℕ) (f : ForkRow) → f.facts ≤ m' → take m cs ≡ take m ds →

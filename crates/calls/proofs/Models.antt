@@ -1,6 +1,6 @@
 -- A model is granted exactly where it is lawful, has few enough tuples, and satisfies the constraints:
 -- `model_exact`.
-use Rattle.std.proofs.Common.{◌≡◌, ℕ, Bool, true, false, cond, eqb, leb, length, Ok, Err, Result, sym, refl, ap, ◌∙◌, eq-eqb, eqb-true}
+use Rattle.std.proofs.Common.{◌≡◌, ℕ, Bool, true, false, cond, eqb, leb, length, Ok, Err, Result, sym, refl, ◌∙◌, eq-eqb, eqb-true}
 use mathlib.Core.Option.{Option, none, some}
 use Rattle.records.specs.declared.refusal.Refusal.{Refusal}
 use Rattle.records.specs.declared.refusal.Refusal.TheVariants.{Unlawful, TuplesOver}
@@ -59,9 +59,4 @@ model_exact K S b count rs len most = (from, to)
         (few_exact S rs b.facts most_tuples).1 f in
         let holds : first_false S (Named S rs b.facts) S.constraints 0 ≡ none =
         (satisfies_exact S (Named S rs b.facts)).1 s in
-        ap (λ (t : Bool). cond t (on_names S (Named S rs b.facts) (first_bad (name_lawful K S rs) b.count))
-        (Err (Unlawful 255))) counted
-        ∙ ap (on_names S (Named S rs b.facts)) good
-        ∙ ap (λ (t : Bool). cond t (on_constraints (first_false S (Named S rs b.facts) S.constraints 0))
-        (Err TuplesOver)) fits
-        ∙ ap on_constraints holds
+        cc

@@ -75,6 +75,5 @@ module _ (P : Plain) (good : Good P) where
       record {
         arity = r.arity;
         row =
-            remap read_row P.rows t r h
-            ∙ (λ i. some (record { op = op_of (ek i) r.a r.b (take r.arity u); arity = r.arity }));
+            cc (remap read_row P.rows t r h, ek);
       }

@@ -29,10 +29,8 @@ use Rattle.calls.proofs.StepCases.{ByRule, told, rule_is, model_is, read_rule}
 
 -- a granted step is answered so
 taken_ok : (t : Counts) (h : Held) (o : Outcome) → (taken t h o).result ≡ Ok tt
-taken_ok t h (outcome.Adds g) = refl
-taken_ok t h (outcome.Forks g f k) = refl
 taken_ok t h outcome.Closes = refl
-taken_ok t h (outcome.Resumes g f k) = refl
+taken_ok t h _ = refl
 
 -- a step left denied is right where no case grants it
 pub left :
