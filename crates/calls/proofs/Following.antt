@@ -45,6 +45,40 @@ Right K t h x (Err e) =
 abbrev pub Follows : Counts → Held → Counts → Held → State → Type 0
 Follows t h t' h' x = Whole t' h' × (read_trial t' h' ≡ subject.moved (read_trial t h) x)
 
+-- A trial with other numbers of granted and denied records is whole too.
+abbrev pub recorded : Counts → ℕ → ℕ → Counts
+recorded t g d = record {
+  labels = t.labels;
+  free = t.free;
+  terms = t.terms;
+  constraints = t.constraints;
+  verdict = t.verdict;
+  names = t.names;
+  facts = t.facts;
+  forks = t.forks;
+  granted = g;
+  denied = d;
+}
+
+live_recorded : (t : Counts) (h : Held) (g d : ℕ) (v : Verdict) → LiveBy v t h → LiveBy v (recorded t g d) h
+live_recorded t h g d verdict.Closed l = tt
+live_recorded t h g d _ l = record { fair = l.fair; stacked = l.stacked }
+
+pub whole_recorded : (t : Counts) (h : Held) (g d : ℕ) → g ≤ 1000000 → Whole t h → Whole (recorded t g d) h
+whole_recorded t h g d few w = record {
+  enough = w.enough;
+  few_sheet_names = w.few_sheet_names;
+  few_terms = w.few_terms;
+  few_constraints = w.few_constraints;
+  few_names = w.few_names;
+  few_facts = w.few_facts;
+  few_forks = w.few_forks;
+  few_granted = few;
+  constraints_kept = w.constraints_kept;
+  good = w.good;
+  live = live_recorded t h g d t.verdict w.live;
+}
+
 module _ (t : Counts) (h : Held) (w : Whole t h) where
   pub live : t.verdict ≡ verdict.Undecided → Live t h
   live un = subst (λ (v : Verdict). LiveBy v t h) un w.live

@@ -11,10 +11,11 @@ use Rattle.calls.specs.Stores.{Held}
 use Rattle.calls.specs.Sheets.{Filling, Counts, seal_of}
 use Rattle.calls.specs.RuleSteps.{denied_once}
 use Rattle.calls.specs.Trials.{settle_of}
-use Rattle.calls.specs.Views.{Orderly, Whole, LiveBy, state_by, verdict_by, read_trial}
+use Rattle.calls.specs.Views.{Orderly, Whole, state_by, verdict_by, read_trial}
 use Rattle.calls.specs.Exact.{Denied, AddExact, AddIsExact, SealExact, SealIsExact, StepExact, StepIsExact, SettleExact}
 use Rattle.calls.specs.Exact.{SettleIsExact}
 use Rattle.calls.specs.Runs.{Place, sheet, trial, ended, read_place, Sound, after_seal, after_settle, called, run, Turns}
+use Rattle.calls.proofs.Following.{whole_recorded}
 use Rattle.calls.specs.Runs.{CallIsExact, RunsAreExact, RunsAreSound}
 
 -- At most one stage is granted.
@@ -29,26 +30,6 @@ Went K p c q =
     Goes K (read_place p) c (read_place q)
     × ((st : Stage) → Goes K (read_place p) c st → st ≡ read_place q)
     × Sound q
-
--- A denied step keeps what a trial that is not closed keeps.
-live_denied : (t : Counts) (h : Held) (v : Verdict) → LiveBy v t h → LiveBy v (denied_once t) h
-live_denied t h verdict.Closed l = tt
-live_denied t h _ l = record { fair = l.fair; stacked = l.stacked }
-
-pub denied_whole : (t : Counts) (h : Held) → Whole t h → Whole (denied_once t) h
-denied_whole t h w = record {
-  enough = w.enough;
-  few_sheet_names = w.few_sheet_names;
-  few_terms = w.few_terms;
-  few_constraints = w.few_constraints;
-  few_names = w.few_names;
-  few_facts = w.few_facts;
-  few_forks = w.few_forks;
-  few_granted = w.few_granted;
-  constraints_kept = w.constraints_kept;
-  good = w.good;
-  live = live_denied t h t.verdict w.live;
-}
 
 -- A denied step leaves the state and the verdict.
 state_denied : (t : Counts) (h : Held) (v : Verdict) → state_by v (denied_once t) h ≡ state_by v t h
@@ -110,7 +91,7 @@ module _ (single : Single) where
     step_went K t h bs good t' h' (Err e) (st, sh, never) =
         subst (λ (y : Counts). Went K (trial t h) (step bs) (trial y h')) (sym st)
         (subst (λ (y : Held). Went K (trial t h) (step bs) (trial (denied_once t) y)) (sym sh)
-        (no_call K (trial t h) (step bs) (trial (denied_once t) h) tt (denied_whole t h good) never (read_denied t h)))
+        (no_call K (trial t h) (step bs) (trial (denied_once t) h) tt (whole_recorded t h t.granted (denied_once t).denied good.few_granted good) never (read_denied t h)))
 
     -- settle
     settle_went :
