@@ -81,7 +81,7 @@ module _ (K : ℕ → Option ℕ) (P : Plain) (good : Good P) where
         line_met r (cites r x f g) ≡ true →
         plan_of x ≡ Ok (record { rule = r; cited = cites r x f g })
     make x r f g en hp hq ht hw m =
-        cc (ap rule_of (sym en) ∙ named r, hp.0, hq.0, and_from _ _ (and_from _ _ hp.1 (and_from _ _ hq.1 (and_from _ _ ht hw))) m)
+        cc (ap rule_of (sym en) ∙ named r)
 
     look_none : (b : Bool) (p : ℕ) → b ≡ false → p ≡ 0 → Looks b p no_fact
     look_none b p e z = (ap (λ (c : Bool). looked c facts p) e, ap₂ untouched e z)

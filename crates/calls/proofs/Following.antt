@@ -47,18 +47,7 @@ Follows t h t' h' x = Whole t' h' × (read_trial t' h' ≡ subject.moved (read_t
 
 -- A trial with other numbers of granted and denied records is whole too.
 abbrev pub recorded : Counts → ℕ → ℕ → Counts
-recorded t g d = record {
-  labels = t.labels;
-  free = t.free;
-  terms = t.terms;
-  constraints = t.constraints;
-  verdict = t.verdict;
-  names = t.names;
-  facts = t.facts;
-  forks = t.forks;
-  granted = g;
-  denied = d;
-}
+recorded t g d = record t { granted = g; denied = d }
 
 live_recorded : (t : Counts) (h : Held) (g d : ℕ) (v : Verdict) → LiveBy v t h → LiveBy v (recorded t g d) h
 live_recorded t h g d verdict.Closed l = tt

@@ -79,16 +79,7 @@ forms_are rows f g e =
     let en = names_are (fact_names f) (fact_names g) r₁.1 in
     λ i.
     read_form rows
-    (record {
-      form =
-          ef i;
-      positive = f.positive;
-      term = et i;
-      a = (en i).a;
-      b = (en i).b;
-      c = (en i).c;
-      d = (en i).d;
-    })
+    (record f { form = ef i; term = et i; a = (en i).a; b = (en i).b; c = (en i).c; d = (en i).d })
 
 -- a form equals itself, whatever the signs
 pub facts_self : (g h : Bool) (f : Form) → fact.equal_facts (write_form g f) (write_form h f) ≡ true

@@ -244,7 +244,7 @@ module _
       ∙ (λ i. running (after_reads i) (read_fork P after (onward f) ∷ others_kept i))
       ∙ (λ i. running (extend (read_branch P cut f.names) (read_alt P.rows next_of))
       (fork_with P
-      (record { facts = f.facts; names = f.names; rule = f.rule; p = f.p; t = f.t; next = next_step i })
+      (record f { next = next_step i })
       (sym front_kept i) (cited_again P.rows (or_none (sym ep i)) f.t)
       ∷ read_forks P F G []))
       ∙ ap

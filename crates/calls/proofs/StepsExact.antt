@@ -157,10 +157,7 @@ pub decided_step_exact :
     reached_by v ≡ true → (m : Move) →
     StepExact K t h bs (stepped_at v K t h m).trial (stepped_at v K t h m).stores (stepped_at v K t h m).result
 decided_step_exact K t h bs verdict.Undecided e r m = absurd cc
-decided_step_exact K t h bs verdict.Closed e r m =
-    left K t h bs VerdictReached
-    (decided_denied K t h bs (subst (λ (v : Verdict). Decided (verdict_by v t h)) (sym e) tt))
-decided_step_exact K t h bs verdict.Open e r m =
+decided_step_exact K t h bs _ e r m =
     left K t h bs VerdictReached
     (decided_denied K t h bs (subst (λ (v : Verdict). Decided (verdict_by v t h)) (sym e) tt))
 
@@ -171,5 +168,4 @@ settle_exact K t h w = go t.verdict refl
   where
     go : (v : Verdict) → t.verdict ≡ v → SettleExact K t h (cond (reached_by v) (Ok tt) (Err NoVerdict))
     go verdict.Undecided e = λ st' g. subst (λ (v : Verdict). Decided (verdict_by v t h)) e (told g)
-    go verdict.Closed e = verdict_there (subst (λ (v : Verdict). Decided (verdict_by v t h)) (sym e) tt)
-    go verdict.Open e = verdict_there (subst (λ (v : Verdict). Decided (verdict_by v t h)) (sym e) tt)
+    go _ e = verdict_there (subst (λ (v : Verdict). Decided (verdict_by v t h)) (sym e) tt)

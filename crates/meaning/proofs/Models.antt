@@ -84,20 +84,13 @@ module _ (K : ℕ → Option ℕ) (S : Sheet) (n : ℕ) (rs : List ℕ) (lawful 
       go (yes lp) (yes lq) =
           let a = lawful.label p lp in
           let b = lawful.label q lq in
-          let f : labelled a.0 ≡ labelled b.0 = sym (thing_label K S p a.0 a.1) ∙ e ∙ thing_label K S q b.0 b.1 in
-          let v : b.0 ≡ a.0 = cc in
+          let v : b.0 ≡ a.0 = cc (thing_label K S p a.0 a.1, thing_label K S q b.0 b.1) in
           order a.0 lp lq a.1 (subst (Bears K S q) v b.1) (dec_lt p q) (dec_lt q p)
       go (yes lp) (no lq) =
-          let a = lawful.label p lp in
-          let f : labelled a.0 ≡ unlabelled q = sym (thing_label K S p a.0 a.1) ∙ e ∙ thing_free K S q (omega arith) in
-          absurd cc
+          let a = lawful.label p lp in cc (thing_label K S p a.0 a.1, thing_free K S q (omega arith))
       go (no lp) (yes lq) =
-          let b = lawful.label q lq in
-          let f : unlabelled p ≡ labelled b.0 = sym (thing_free K S p (omega arith)) ∙ e ∙ thing_label K S q b.0 b.1 in
-          absurd cc
-      go (no lp) (no lq) =
-          let f : unlabelled p ≡ unlabelled q = sym (thing_free K S p (omega arith)) ∙ e ∙ thing_free K S q (omega arith) in
-          cc
+          let b = lawful.label q lq in cc (thing_free K S p (omega arith), thing_label K S q b.0 b.1)
+      go (no lp) (no lq) = cc (thing_free K S p (omega arith), thing_free K S q (omega arith))
 
   means_inj : (a b : Rep) → means a ≡ means b → a ≡ b
   unfolding Rep means number

@@ -1,7 +1,7 @@
 -- Each rule keeps an interpretation: where it satisfies the cited facts, some alternative is satisfied once the fresh names are given things: `rule_sound`.
 use Rattle.std.proofs.Common.{◌≡◌, ℕ, ◌+◌, ◌<◌, ◌≤◌, ◌⊎◌, List, [], ◌∷◌, ◌++◌, map, reverse, length, sym, refl, ap, ◌∙◌, subst, ap₂, inl, inr, ⊎_elim, arith, length-append}
 use mathlib.Core.List.{reverse-reverse, head-eq_of_cons-eq, tail-eq_of_cons-eq}
-use mathlib.Core.Option.{Option, some, some-injective}
+use mathlib.Core.Option.{Option}
 use native.Mathlib.Decide.{ℕ_discrete}
 use lib.ListN.{length-map}
 use Rattle.std.specs.List.{AllByRecursion}
@@ -66,9 +66,7 @@ module _ (K : ℕ → Option ℕ) (S : Sheet) (full : Full S) (I : Interp Thing)
   label_of : {a x : ℕ} → Bears K S a x → I.name a ≡ labelled x
   label_of {a} {x} b =
       let r = reads.labels a (below S.codes a b.0 b.1) in
-      let c : some r.1.0 ≡ some b.0 = sym r.1.1 ∙ b.1 in
-      let k : K r.1.0 ≡ K b.0 = ap K (some-injective _ _ c) in
-      r.2 ∙ ap labelled (some-injective _ _ (sym r.1.2 ∙ k ∙ b.2))
+      cc (r.2, r.1.1, r.1.2, b.1, b.2)
 
   label_low : {a x : ℕ} → Bears K S a x → a < names S
   label_low {a} b = let h = below S.codes a b.0 b.1 in omega arith
@@ -200,7 +198,5 @@ module _ (K : ℕ → Option ℕ) (S : Sheet) (full : Full S) (I : Interp Thing)
       let q = p.1.0 in
       inl (e, λ i h. refl, (sat_iff S.rows I e e g (same t s) (same t r) (λ h u. (λ x. (q u).0 ((h u).0 x), λ x. (h u).1 ((q u).1 x)), λ h u. (λ x. (q u).1 ((h u).0 x), λ x. (h u).1 ((q u).0 x))) p.0, tt))
   rule_sound (label_unsat {a = a} {b = b'} {x = x} {y = y} hx hy ne) l e ex b p =
-      let q : labelled x ≡ labelled y = sym (label_of hx) ∙ sym (ex a (label_low hx)) ∙ p.0 ∙ ex b' (label_low hy) ∙ label_of hy in
-      let same_value : x ≡ y = cc in
-      ne same_value
-  rule_sound (label_same {a = a} {b = b'} hx hy) l e ex b p = inl (e, λ i h. refl, (ex a (label_low hx) ∙ label_of hx ∙ sym (label_of hy) ∙ sym (ex b' (label_low hy)), tt))
+      ne (cc (label_of hx, label_of hy, ex a (label_low hx), ex b' (label_low hy), p.0))
+  rule_sound (label_same {a = a} {b = b'} hx hy) l e ex b p = inl (e, λ i h. refl, (cc (label_of hx, label_of hy, ex a (label_low hx), ex b' (label_low hy)), tt))
