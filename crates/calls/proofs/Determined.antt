@@ -1,5 +1,5 @@
 -- The subject grants a call at most one stage, where it is read from numbers and stores (`single`).
-use Rattle.std.proofs.Common.{◌≡◌, ℕ, ◌⊎◌, List, length, drop, sym, refl, ap, ◌∙◌, subst, inl, inr, arith}
+use Rattle.std.proofs.Common.{◌≡◌, ℕ, ◌⊎◌, List, length, drop, sym, refl, ◌∙◌, subst, inl, inr, arith}
 use mathlib.Core.Option.{Option, none}
 use Rattle.std.specs.declared.option.Option.TheVariants as option
 use Rattle.records.specs.declared.record.RowRecord.TheVariants as row
@@ -13,10 +13,9 @@ use Rattle.meaning.specs.Mixes.{Stage, filling, trying, settled, Call, add, seal
 use Rattle.meaning.specs.Mixes.{Grants, label_row, term_row, constraint_row, full_sheet, rule_step, model_step}
 use Rattle.meaning.specs.Mixes.{verdict_there}
 use Rattle.meaning.specs.Mixes as subject
-use Rattle.calls.specs.Reading.{read_row, write_row, read_fact, write_fact, Good}
+use Rattle.calls.specs.Reading.{write_row, write_fact, Good}
 use Rattle.calls.specs.Stores.{Held}
 use Rattle.calls.specs.Sheets.{Filling, Counts}
-use Rattle.records.specs.Reading.{fact_said}
 use Rattle.calls.specs.RuleSteps.{branch_facts}
 use Rattle.calls.specs.Trials.{plain_of, branch_of}
 use Rattle.calls.specs.Views.{Orderly, Whole, Live, LiveBy, plain_in, read_draft, state_of, state_by, verdict_by, read_trial}
@@ -60,17 +59,11 @@ module _ (f : Filling) (h : Held) (o : Orderly f h) where
   led_one (option.Some (row.Term r)) st st' (R, w, c, e) (R', w', c', e') =
       let S = (read_draft f h).sheet in
       let back = row_back S.rows (names S) (length S.rows) in
-      let same : R ≡ R' =
-      sym (back R c.high c.fits) ∙ ap read_row (w ∙ sym w') ∙ back R' c'.high c'.fits in
-      e ∙ ap (λ (y : Row). filling (drafted (read_draft f h) (with_row S y))) same ∙ sym e'
+      cc (back R c.high c.fits, back R' c'.high c'.fits)
   led_one (option.Some (row.Constraint r)) st st' (F, w, c, e) (F', w', c', e') =
       let S = (read_draft f h).sheet in
       let back = fact_back (λ x. none) (plain_in f h) good (names S) in
-      let written : write_fact F ≡ write_fact F' =
-      sym (said_back (write_fact F)) ∙ ap fact_said (w ∙ sym w') ∙ said_back (write_fact F') in
-      let same : F ≡ F' =
-      sym (back F c.fits) ∙ ap (read_fact (plain_in f h).rows) written ∙ back F' c'.fits in
-      e ∙ ap (λ (y : Fact). filling (drafted (read_draft f h) (with_constraint S y))) same ∙ sym e'
+      cc (back F c.fits, back F' c'.fits, said_back (write_fact F), said_back (write_fact F'))
   led_one option.None st st' e e' = absurd e
 
 -- ── steps ──────────────────────────────────────────────────────────────────

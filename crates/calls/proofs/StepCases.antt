@@ -1,7 +1,7 @@
 -- What a granted step or settle rests on, told from its case (`told`), and the bytes of a step, told from how
 -- they are read (`read_rule`, `read_model`) and read where they are told (`rule_is`, `model_is`).
 use Rattle.std.proofs.Common.{◌≡◌, ℕ, ◌+◌, ◌*◌, ◌<◌, ◌≤◌, Bool, true, false, cond, ◌&&◌, eqb, leb, ◌⊎◌, List, [], ◌∷◌, length, drop, refl, ap, ◌∙◌, inl, inr, arith, eqb-true, le-leb, leb-true}
-use Rattle.std.proofs.lemmas.Bool.{and_parts}
+use Rattle.std.proofs.lemmas.Bool.{and_right, and_parts}
 use Rattle.records.specs.declared.rows.Step.{Step}
 use Rattle.calls.proofs.Bytes.{spelt}
 use Rattle.records.specs.Reading.{rule, model, other, byte, marked, whole, step_of, step_in}
@@ -96,15 +96,11 @@ told _ = tt
 
 -- ── bytes ──────────────────────────────────────────────────────────────────
 
-and_false : (b : Bool) → (b && false) ≡ false
-and_false true = refl
-and_false false = refl
-
 -- the bytes of a model are read as one
 model_reads : (n : ℕ) (rs : List ℕ) → step_in (77 ∷ 68 ∷ n ∷ rs) ≡ model n rs
 model_reads n rs =
     let l : leb 3 (length (77 ∷ 68 ∷ n ∷ rs)) ≡ true = le-leb _ _ (omega arith) in
-    λ i. cond (and_false (eqb (length (77 ∷ 68 ∷ n ∷ rs)) 9) i) (rule (step_of (77 ∷ 68 ∷ n ∷ rs)))
+    λ i. cond (and_right (eqb (length (77 ∷ 68 ∷ n ∷ rs)) 9) false refl i) (rule (step_of (77 ∷ 68 ∷ n ∷ rs)))
     (cond (l i && true) (model n rs) other)
 
 -- what the bytes of a case are read as

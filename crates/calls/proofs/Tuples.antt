@@ -1,6 +1,6 @@
 -- Tuples in four fields do what lists of names do: reversed (`reversed_is`), joined, split, changed.
 use Rattle.std.proofs.Common.{◌≡◌, ℕ, zero, suc, ◌+◌, ◌-◌, ◌<◌, ◌≤◌, List, [], ◌∷◌, ◌++◌, reverse, length, get_or, take, sym, refl, ap, arith}
-use Rattle.std.proofs.lemmas.List.{get_or_past}
+use Rattle.std.proofs.lemmas.List.{get_or_past, nil_from_length}
 use Rattle.records.specs.Tuples as tuple
 use Rattle.records.specs.Tuples.{reversed, joined, rest_from, name_at, name_put, fresh_names, before_all}
 use Rattle.records.specs.Tuples.{pair_of}
@@ -29,24 +29,12 @@ joined_is _ c v h = absurd (omega arith)
 -- the names from a place on
 pub rest_is : (a b : List ℕ) → length a + length b ≤ 4 → rest_from (length a) (names_of (a ++ b)) ≡ names_of b
 rest_is [] b h = refl
-rest_is (x ∷ []) b h =
-    let e = sym (get_or_past b 3 0 (omega arith)) in
-    λ i. tuple.names (get_or b 0 0) (get_or b 1 0) (get_or b 2 0) (e i)
-rest_is (x ∷ y ∷ []) b h =
-    let e = sym (get_or_past b 2 0 (omega arith)) in
-    let e' = sym (get_or_past b 3 0 (omega arith)) in
-    λ i. tuple.names (get_or b 0 0) (get_or b 1 0) (e i) (e' i)
+rest_is (x ∷ []) b h = cc (get_or_past b 3 0 (omega arith))
+rest_is (x ∷ y ∷ []) b h = cc (get_or_past b 2 0 (omega arith), get_or_past b 3 0 (omega arith))
 rest_is (x ∷ y ∷ z ∷ []) b h =
-    let e = sym (get_or_past b 1 0 (omega arith)) in
-    let e' = sym (get_or_past b 2 0 (omega arith)) in
-    let e'' = sym (get_or_past b 3 0 (omega arith)) in
-    λ i. tuple.names (get_or b 0 0) (e i) (e' i) (e'' i)
+    cc (get_or_past b 1 0 (omega arith), get_or_past b 2 0 (omega arith), get_or_past b 3 0 (omega arith))
 rest_is (x ∷ y ∷ z ∷ v ∷ []) b h =
-    let e = sym (get_or_past b 0 0 (omega arith)) in
-    let e' = sym (get_or_past b 1 0 (omega arith)) in
-    let e'' = sym (get_or_past b 2 0 (omega arith)) in
-    let e''' = sym (get_or_past b 3 0 (omega arith)) in
-    λ i. tuple.names (e i) (e' i) (e'' i) (e''' i)
+    let e : b ≡ [] = nil_from_length b (omega arith) in cc
 rest_is _ b h = absurd (omega arith)
 
 -- the name at a place
@@ -71,13 +59,11 @@ put_is _ b m e h = absurd (omega arith)
 pub fresh_is : (k n : ℕ) → 1 ≤ k → k ≤ 4 → fresh_names k n ≡ names_of (up_from n k)
 fresh_is (suc zero) n l h = refl
 fresh_is (suc (suc zero)) n l h = refl
-fresh_is (suc (suc (suc zero))) n l h =
-    let e : n + 2 ≡ n + 1 + 1 = omega arith in
-    λ i. tuple.names n (n + 1) (e i) 0
+fresh_is (suc (suc (suc zero))) n l h = let e : n + 2 ≡ n + 1 + 1 = omega arith in cc
 fresh_is (suc (suc (suc (suc zero)))) n l h =
     let e : n + 2 ≡ n + 1 + 1 = omega arith in
     let e' : n + 3 ≡ n + 1 + 1 + 1 = omega arith in
-    λ i. tuple.names n (n + 1) (e i) (e' i)
+    cc
 fresh_is _ n l h = absurd (omega arith)
 
 -- a tuple read from four fields: its last name, its first name, both of two, any place
