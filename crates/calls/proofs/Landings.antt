@@ -65,8 +65,7 @@ module _
       (m + size_of a) (n + a.fresh) (F ++ facts_of a) G
   adds_land r q a ea one lm ln fair =
       let alts : map (read_alt P.rows) (alt_rows r q n) ≡ read_alt P.rows a ∷ [] =
-      ap (λ (k : ℕ). map (read_alt P.rows) (map (alternative_of r q n) (up_from 0 k))) one
-      ∙ ap (λ (z : AltRow). read_alt P.rows z ∷ []) ea in
+      cc (one, ea) in
       record {
         reads =
             cc (branch_grown a, forks_stay a, alts);

@@ -150,6 +150,5 @@ read_model bs n rs e = go (whole 9 83 84 bs) (leb 3 (length bs) && marked 77 68 
         let m = and_parts (eqb (byte bs 0) 77) (eqb (byte bs 1) 68) s.1 in
         let en : byte bs 2 ≡ n = cc in
         let er : drop 3 bs ≡ rs = cc in
-        three bs (leb-true _ _ s.0)
-        ∙ (λ i. eqb-true (byte bs 0) 77 m.0 i ∷ eqb-true (byte bs 1) 68 m.1 i ∷ en i ∷ er i)
+        cc (three bs (leb-true _ _ s.0), eqb-true (byte bs 0) 77 m.0, eqb-true (byte bs 1) 68 m.1)
     go false false q e = absurd cc

@@ -56,10 +56,11 @@ trees_at done (r ∷ rs) zero n e o k h s =
     let x : Tm = node (length done) r.op (λ i. get_or done i Empty) in
     let l : length (pushed done r) ≡ length done + 1 = length_push done x in
     let er : r ≡ record { op = o; arity = k } = some-injective _ _ h in
-    let front : get_or (trees done (r ∷ rs)) n Empty ≡ get_or (pushed done r) n Empty = trees_front (pushed done r) rs n (omega arith) in
-    let here : get_or (pushed done r) n Empty ≡ x = get_or_push done x Empty n (sym en) in
-    let opened : x ≡ node n o (λ i. get_or done i Empty) = λ i. node (sym en i) (er i).op (λ j. get_or done j Empty) in
-    front ∙ here ∙ opened ∙ node_same n o (λ i. get_or done i Empty) (λ i. get_or (trees done (r ∷ rs)) i Empty) s (λ i hi. sym (trees_front done (r ∷ rs) i (omega arith)))
+    cc (
+      trees_front (pushed done r) rs n (omega arith),
+      get_or_push done x Empty n (sym en),
+      node_same n o (λ i. get_or done i Empty) (λ i. get_or (trees done (r ∷ rs)) i Empty) s (λ i hi. sym (trees_front done (r ∷ rs) i (omega arith))),
+    )
 trees_at done (r ∷ rs) (suc j) n e o k h s =
     let x : Tm = node (length done) r.op (λ i. get_or done i Empty) in
     let l : length (pushed done r) ≡ length done + 1 = length_push done x in

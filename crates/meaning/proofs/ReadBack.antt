@@ -5,7 +5,7 @@ use Rattle.std.specs.List.{AllByRecursion, flat_map}
 use Rattle.std.proofs.ByRecursion.{All-append, All-weaker}
 use Rattle.std.proofs.lemmas.Bool.{ne_eqb, eq-eqb, eqb-true, cond-false, cond-true, and_parts, and_from}
 use Rattle.meaning.specs.Text.{Line, closed, opened, name, inside, refused, numeral, word, numbers, spaced, body, text}
-use Rattle.meaning.specs.Reading.{same, on_first, parts, front, value, by_word, from_parts, guess, ReadsBack, ReadsOnly}
+use Rattle.meaning.specs.Reading.{same, on_first, parts, front, by_word, from_parts, guess, ReadsBack, ReadsOnly}
 use Rattle.meaning.proofs.Numerals.{Solid, solid_numeral, value_numeral, values_numerals}
 
 -- no byte is c
@@ -51,18 +51,18 @@ front_push (q ∷ []) p = refl
 front_push (q ∷ r ∷ ps) p = ap (λ l. q ∷ l) (front_push (r ∷ ps) p)
 
 line_back : (l : Line) → by_word (word l) (map numeral (numbers l)) ≡ l
-line_back (closed g) = ap closed (value_numeral g)
-line_back (opened g) = ap opened (value_numeral g)
-line_back (name e r) = ap (λ x. name x (value (numeral r))) (value_numeral e) ∙ ap (name e) (value_numeral r)
-line_back (inside t us) = ap (λ x. inside x (map value (map numeral us))) (value_numeral t) ∙ ap (inside t) (values_numerals us)
-line_back (refused n r d) = ap (λ x. refused x (value (numeral r)) (value (numeral d))) (value_numeral n) ∙ ap (λ x. refused n x (value (numeral d))) (value_numeral r) ∙ ap (refused n r) (value_numeral d)
+line_back (closed g) = cc (value_numeral g)
+line_back (opened g) = cc (value_numeral g)
+line_back (name e r) = cc (value_numeral e, value_numeral r)
+line_back (inside t us) = cc (value_numeral t, values_numerals us)
+line_back (refused n r d) = cc (value_numeral n, value_numeral r, value_numeral d)
 
 body_back : (l : Line) → from_parts (parts 32 (body (word l) (numbers l))) ≡ l
 body_back l = ap from_parts (parts_body (word l) (numbers l) (solid_word l)) ∙ line_back l
 
 bodies_back : (ls : List Line) → map (λ p. from_parts (parts 32 p)) (map (λ l. body (word l) (numbers l)) ls) ≡ ls
 bodies_back [] = refl
-bodies_back (l ∷ ls) = ap (λ x. x ∷ map (λ p. from_parts (parts 32 p)) (map (λ l. body (word l) (numbers l)) ls)) (body_back l) ∙ ap (λ t. l ∷ t) (bodies_back ls)
+bodies_back (l ∷ ls) = cc (body_back l, bodies_back ls)
 
 guess_text : (ls : List Line) → guess (text ls) ≡ ls
 guess_text ls =
