@@ -23,7 +23,7 @@ use Rattle.calls.specs.Reading.{Good}
 use Rattle.calls.specs.Passing.{alt_rows, Passes, second_of, From, from_none, from_one, from_twice, from_two}
 use Rattle.calls.specs.Bridge.{plan_alts, Fair, AppliesTo, Bridged}
 use Rattle.meaning.proofs.RuleFits.{Fits, rule_fits}
-use Rattle.calls.proofs.Lookups.{unmap, remap, to_nth, of_nth, all_at}
+use Rattle.calls.proofs.Lookups.{unmap, remap, all_at, same_entry}
 use Rattle.calls.proofs.Numbers.{named, numbered}
 use Rattle.calls.proofs.Rows.{full}
 use Rattle.calls.proofs.Written.{few, alts_back, alts_kept, facts_up}
@@ -69,7 +69,7 @@ module _ (K : ℕ → Option ℕ) (P : Plain) (good : Good P) where
     row_there p f a =
         let r = unmap (read_fact P.rows) facts p f a.is in
         let b = all_at (FactFits P n) facts p r.0 fit r.1 in (
-          to_nth facts p r.0 r.1 ∙ ap Some (sym b.written ∙ ap write_fact r.2),
+          (same_entry facts p r.0).0 r.1 ∙ ap Some (sym b.written ∙ ap write_fact r.2),
           subst (λ (x : Fact). Fitting n x) r.2 b.fits,
         )
 
@@ -150,14 +150,14 @@ module _ (K : ℕ → Option ℕ) (P : Plain) (good : Good P) where
     at_read :
         (p : ℕ) (f : FactRow) (h : Fact) → slice_get facts p ≡ Some f → h ≡ read_fact P.rows f → At branch p h
     at_read p f h e q =
-        record { is = remap (read_fact P.rows) facts p f (of_nth facts p f e) ∙ ap some (sym q) }
+        record { is = remap (read_fact P.rows) facts p f ((same_entry facts p f).1 e) ∙ ap some (sym q) }
 
     sees : (b : Bool) (p : ℕ) (f : FactRow) → b ≡ true → looked b facts p ≡ Some f → slice_get facts p ≡ Some f
     sees true p f e h = h
     sees false p f e h = absurd cc
 
     fits_seen : (b : Bool) (p : ℕ) (f : FactRow) → looked b facts p ≡ Some f → b ≡ true → FactFits P n f
-    fits_seen b p f h e = all_at (FactFits P n) facts p f fit (of_nth facts p f (sees b p f e h))
+    fits_seen b p f h e = all_at (FactFits P n) facts p f fit ((same_entry facts p f).1 (sees b p f e h))
 
     -- the fields p and q cite what the rule's facts come from
     citing :

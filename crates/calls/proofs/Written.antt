@@ -63,15 +63,12 @@ module _ (K : ℕ → Option ℕ) (P : Plain) (good : Good P) where
       (m : ℕ) (fs : List Fact) → length fs ≤ 4 → FormsFit m fs →
       (read_alt P.rows (row_of_facts fs)).facts ≡ fs
   facts_back m [] l b = refl
-  facts_back m (f ∷ []) l b = λ i. fact_back m f b.0 i ∷ []
-  facts_back m (f ∷ g ∷ []) l b = λ i. fact_back m f b.0 i ∷ fact_back m g b.1.0 i ∷ []
-  facts_back m (f ∷ g ∷ h ∷ []) l b =
-      λ i. fact_back m f b.0 i ∷ fact_back m g b.1.0 i ∷ fact_back m h b.1.1.0 i ∷ []
+  facts_back m (f ∷ []) l b = cc (fact_back m f b.0)
+  facts_back m (f ∷ g ∷ []) l b = cc (fact_back m f b.0, fact_back m g b.1.0)
+  facts_back m (f ∷ g ∷ h ∷ []) l b = cc (fact_back m f b.0, fact_back m g b.1.0, fact_back m h b.1.1.0)
   facts_back m (f ∷ g ∷ h ∷ k ∷ []) l b =
-      λ i.
-      fact_back m f b.0 i ∷ fact_back m g b.1.0 i ∷
-      fact_back m h b.1.1.0 i ∷ fact_back m k b.1.1.1.0 i ∷ []
-  facts_back m (f ∷ g ∷ h ∷ k ∷ j ∷ fs) l b = absurd (omega arith)
+      cc (fact_back m f b.0, fact_back m g b.1.0, fact_back m h b.1.1.0, fact_back m k b.1.1.1.0)
+  facts_back m _ l b = absurd (omega arith)
 
   pub alts_back :
       (n : ℕ) (alts : List Alt) → Few alts → AltsFit K (read_sheet P) (full P good) n alts →
@@ -115,7 +112,7 @@ module _ (K : ℕ → Option ℕ) (P : Plain) (good : Good P) where
     fact_kept m f b.0,
     (fact_kept m g b.1.0, (fact_kept m h b.1.1.0, (fact_kept m k b.1.1.1.0, tt))),
   )
-  facts_kept m (f ∷ g ∷ h ∷ k ∷ j ∷ fs) l b = absurd (omega arith)
+  facts_kept m _ l b = absurd (omega arith)
 
   pub alts_kept :
       (n : ℕ) (alts : List Alt) → Few alts → AltsFit K (read_sheet P) (full P good) n alts →

@@ -1,14 +1,20 @@
--- Entries of lists: below the length (`below`), in longer lists (`ahead`, `last_or_before`), as all are (`all_at`).
-use Rattle.std.proofs.Common.{◌≡◌, ℕ, zero, suc, ◌<◌, ◌≤◌, ◌⊎◌, List, [], ◌∷◌, ◌++◌, length, refl, ap, subst, inl, inr, ⊎_elim, arith}
+-- Entries of lists: by either option type (`same_entry`), below the length (`below`), in longer lists (`ahead`, `last_or_before`), as all are (`all_at`).
+use Rattle.std.proofs.Common.{◌≡◌, ℕ, zero, suc, ◌<◌, ◌≤◌, ◌↔◌, ◌⊎◌, List, [], ◌∷◌, ◌++◌, length, Some, refl, ap, subst, inl, inr, ⊎_elim, arith}
 use mathlib.Core.Option.{none, some, some-injective}
 use lib.ListN.{get_elem?}
-use Rattle.std.specs.List.{AllByRecursion}
+use Rattle.std.specs.List.{AllByRecursion, slice_get}
+use Rattle.std.proofs.lemmas.Option.{slice_get_within}
+
+-- the two option types say the same
+pub same_entry :
+    {X : Type 0} (l : List X) (i : ℕ) (x : X) → (get_elem? l i ≡ some x) ↔ (slice_get l i ≡ Some x)
+same_entry [] i x = (λ e. absurd cc, λ e. absurd cc)
+same_entry (y ∷ l) zero x = (λ e. cc, λ e. cc)
+same_entry (y ∷ l) (suc i) x = same_entry l i x
 
 -- an entry that is there is below the length
 pub below : {X : Type 0} (l : List X) (i : ℕ) (x : X) → get_elem? l i ≡ some x → i < length l
-below [] i x e = absurd cc
-below (y ∷ l) zero x e = omega arith
-below (y ∷ l) (suc i) x e = let h = below l i x e in omega arith
+below l i x e = slice_get_within l i x ((same_entry l i x).0 e)
 
 -- past the end there is none
 pub past : {X : Type 0} (l : List X) (i : ℕ) → length l ≤ i → get_elem? l i ≡ none
