@@ -96,14 +96,11 @@ module _ (K : ℕ → Option ℕ) (f : Filling) (h : Held) (o : Orderly f h) (bs
   grants r el et l told es b =
       let F = read_fact rows (fact_said r) in
       let er : said_by (write_fact F) ≡ r = ap said_by b.written ∙ said_again r es in
-      subst
-      (λ (x : List ℕ).
-      Grants K (filling (read_draft f h)) (subject.add x)
-      (filling (read_draft (one_constraint f) (stored (fact_said r)))))
-      (fact_written F (told ∙ ap (λ (x : ConstraintRow). 67 ∷ 78 ∷ constraint_bytes x) (sym er)))
-      (subst (λ (D : Draft). Grants K (filling (read_draft f h)) (subject.add (67 ∷ 78 ∷ fact_bytes F)) (filling D))
-      (draft_is (fact_said r) l)
-      (constraint_row F (codes_in f h o ∙ el) (rows_in f h o ∙ et) (omega (arith, constraints_in f h o)) b.fits))
+      rw (
+        ← fact_written F (told ∙ ap (λ (x : ConstraintRow). 67 ∷ 78 ∷ constraint_bytes x) (sym er)),
+        ← draft_is (fact_said r) l,
+      )
+      (constraint_row {D = read_draft f h} F (codes_in f h o ∙ el) (rows_in f h o ∙ et) (omega (arith, constraints_in f h o)) b.fits)
 
   -- the sign and the fact of a row that the subject's case has
   fits_when :

@@ -1,5 +1,5 @@
 -- A label row is granted exactly as the subject has it (`label_exact`).
-use Rattle.std.proofs.Common.{◌≡◌, ℕ, ◌+◌, ◌<◌, Bool, true, false, cond, ltb, List, [], ◌∷◌, ◌++◌, take, set, Ok, sym, refl, ap, ◌∙◌, subst, arith, ltb-false, ltb-true}
+use Rattle.std.proofs.Common.{◌≡◌, ℕ, ◌+◌, ◌<◌, Bool, true, false, cond, ltb, List, [], ◌∷◌, ◌++◌, take, set, Ok, refl, ap, ◌∙◌, arith, ltb-false, ltb-true}
 use mathlib.Core.Option.{Option, none, some}
 use borrow.Author.Tests.{both_ways}
 use Rattle.std.proofs.lemmas.List.{take_more_set}
@@ -68,16 +68,8 @@ module _ (K : ℕ → Option ℕ) (f : Filling) (h : Held) (o : Orderly f h) (bs
   grants c l told ek =
       let v = valued (K c) ek in
       let ec = told.5 in
-      subst
-      (λ (b : List ℕ).
-      Grants K (filling (read_draft f h)) (subject.add b) (filling (read_draft (one_label f) (stored c))))
-      (sym told.4)
-      (subst
-      (λ (D : Draft).
-      Grants K (filling (read_draft f h)) (subject.add (76 ∷ 66 ∷ told.0 ∷ told.1 ∷ told.2 ∷ told.3 ∷ []))
-      (filling D))
-      (ap (λ (x : ℕ). drafted (read_draft f h) (with_code (read_draft f h).sheet x)) ec ∙ draft_is c l)
-      (label_row told.0 told.1 told.2 told.3 (omega (arith, codes_in f h o)) (ap K ec ∙ v.1)))
+      rw (told.4, ← draft_is c l, ← ec)
+      (label_row {D = read_draft f h} told.0 told.1 told.2 told.3 (omega (arith, codes_in f h o)) (ap K ec ∙ v.1))
 
   by_known :
       (c : ℕ) → row_in bs ≡ option.Some (row.Label c) → RowTold bs (option.Some (row.Label c)) → f.labels_in < f.labels → (z : Bool) →

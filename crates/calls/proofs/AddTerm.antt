@@ -9,7 +9,7 @@ use Rattle.records.specs.declared.refusal.Refusal.TheVariants.{NotDue, IllTerm}
 use Rattle.std.specs.declared.option.Option.TheVariants as option
 use Rattle.records.specs.declared.record.RowRecord.TheVariants as row
 use Rattle.records.specs.Reading.{row_in}
-use Rattle.meaning.specs.Terms.{names, OpFits}
+use Rattle.meaning.specs.Terms.{names}
 use Rattle.meaning.specs.Mixes.{Draft, drafted, with_row, filling, Grants, term_row}
 use Rattle.meaning.specs.Mixes as subject
 use Rattle.calls.specs.Reading.{read_row, read_fact, read_sheet, RowFits}
@@ -128,18 +128,12 @@ module _ (K : ℕ → Option ℕ) (f : Filling) (h : Held) (o : Orderly f h) (bs
       RowFits (plain_in f h) f.terms_in r →
       Grants K (filling (read_draft f h)) (subject.add bs) (filling (read_draft (one_term f) (stored r)))
   grants r el l told b =
-      subst
-      (λ (x : List ℕ).
-      Grants K (filling (read_draft f h)) (subject.add x) (filling (read_draft (one_term f) (stored r))))
-      (row_written (read_row r) (told ∙ ap (λ (x : TermRow). 84 ∷ 77 ∷ term_bytes x) (sym b.written)))
-      (subst
-      (λ (D : Draft).
-      Grants K (filling (read_draft f h)) (subject.add (84 ∷ 77 ∷ subject.row_bytes (read_row r))) (filling D))
-      (draft_is r l)
-      (term_row (read_row r) (codes_in f h o ∙ el) (omega (arith, rows_in f h o)) b.low b.high
-      (subst
-      (λ (t : ℕ). OpFits (read_draft f h).sheet.rows (names (read_draft f h).sheet) t r.arity (read_row r).op)
-      (sym (rows_in f h o)) b.fits)))
+      rw (
+        ← row_written (read_row r) (told ∙ ap (λ (x : TermRow). 84 ∷ 77 ∷ term_bytes x) (sym b.written)),
+        ← draft_is r l,
+      )
+      (term_row {D = read_draft f h} (read_row r) (codes_in f h o ∙ el) (omega (arith, rows_in f h o)) b.low b.high
+      (rw (rows_in f h o) b.fits))
 
   -- a row that fits is one that the subject's case has
   fits_when :
@@ -148,10 +142,7 @@ module _ (K : ℕ → Option ℕ) (f : Filling) (h : Held) (o : Orderly f h) (bs
       let R = q.0 in
       let c = q.2 in
       subst (RowFits (plain_in f h) f.terms_in) q.1
-      (row_refits (plain_in f h) f.terms_in R c.low c.high
-      (subst
-      (λ (t : ℕ). OpFits (read_draft f h).sheet.rows (names (read_draft f h).sheet) t R.arity R.op)
-      (rows_in f h o) c.fits))
+      (row_refits (plain_in f h) f.terms_in R c.low c.high (rw (rows_in f h o) at c.fits))
 
   -- the rows that are in are as many as asked
   short : f.terms_in ≤ length before
