@@ -1,17 +1,17 @@
 -- Stores that are long enough pass the test of it (`enough_holds`), and a write leaves them long enough.
 use Rattle.std.proofs.Common.{◌≡◌, ℕ, true, set, arith, length-set, le-leb}
+use Rattle.std.proofs.lemmas.Bool.{and_from}
 use Rattle.records.specs.declared.rows.Fact.{Fact}
 use Rattle.records.specs.declared.rows.TermRow.{TermRow}
 use Rattle.calls.specs.Stores.{Held, Enough, enough, with_labels, with_terms, with_facts}
-use Rattle.calls.proofs.Truth.{and_true}
 
 pub enough_holds : (h : Held) → Enough h → enough h ≡ true
 enough_holds h b =
-    and_true (le-leb 32 _ b.labels)
-    (and_true (le-leb 64 _ b.terms)
-    (and_true (le-leb 1024 _ b.facts)
-    (and_true (le-leb 64 _ b.forks)
-    (and_true (le-leb 4096 _ b.tuples) (le-leb 64 _ b.representatives)))))
+    and_from _ _ (le-leb 32 _ b.labels)
+    (and_from _ _ (le-leb 64 _ b.terms)
+    (and_from _ _ (le-leb 1024 _ b.facts)
+    (and_from _ _ (le-leb 64 _ b.forks)
+    (and_from _ _ (le-leb 4096 _ b.tuples) (le-leb 64 _ b.representatives)))))
 
 -- a label, a term or a fact is written
 pub label_kept : (h : Held) (i c : ℕ) → Enough h → Enough (with_labels h (set h.labels i c))

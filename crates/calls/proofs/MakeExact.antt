@@ -1,5 +1,6 @@
 -- make runs exactly as the subject has it (`make_exact`).
 use Rattle.std.proofs.Common.{◌≡◌, ℕ, ◌+◌, Bool, true, false, cond, eqb, leb, List, Some, None, Ok, Err, Option, sym, refl, subst, arith, eq-eqb, eqb-true, le-leb, leb-true}
+use Rattle.std.proofs.lemmas.Bool.{and_from, and_parts}
 use borrow.Author.Tests.{both_ways}
 use Rattle.records.specs.declared.refusal.Refusal.TheVariants.{StoresShort, WrongLetter, OverLimit}
 use Rattle.records.specs.declared.rows.Header.{Header as HeaderRow}
@@ -9,7 +10,6 @@ use Rattle.calls.specs.Stores.{Held, Enough}
 use Rattle.calls.specs.Sheets.{within, empty_sheet, make_headed}
 use Rattle.calls.specs.Views.{Orderly, plain_in}
 use Rattle.calls.specs.Exact.{MakeExact, MakeIsExact}
-use Rattle.calls.proofs.Truth.{and_split, and_true}
 use Rattle.calls.proofs.Bytes.{HeaderTold, header_told}
 use Rattle.calls.proofs.Enough.{enough_holds}
 use Rattle.calls.proofs.Filled.{none_passed}
@@ -28,15 +28,15 @@ agrees : (letter : ℕ) (bs : List ℕ) (H : Header) → Made letter bs H → Ag
 agrees letter bs H m =
     subst (λ (l : List ℕ). Agrees letter (header_in l)) (sym m.bytes) (
       eq-eqb _ _ m.the_kinds,
-      and_true (le-leb _ _ m.names_fit) (and_true (le-leb _ _ m.terms_fit) (le-leb _ _ m.constraints_fit)),
+      and_from _ _ (le-leb _ _ m.names_fit) (and_from _ _ (le-leb _ _ m.terms_fit) (le-leb _ _ m.constraints_fit)),
     )
 
 module _ (letter : ℕ) (h : Held) (bs : List ℕ) (b : Enough h) where
   -- the empty sheet of a header
   begun : (G : HeaderRow) → within G ≡ true → Orderly (empty_sheet G) h
   begun G e =
-      let p = and_split (leb (G.labels + G.free) 32) _ e in
-      let q = and_split (leb G.terms 64) (leb G.constraints 128) p.1 in
+      let p = and_parts (leb (G.labels + G.free) 32) _ e in
+      let q = and_parts (leb G.terms 64) (leb G.constraints 128) p.1 in
       record {
         enough = b;
         few_names = leb-true _ _ p.0;
@@ -54,8 +54,8 @@ module _ (letter : ℕ) (h : Held) (bs : List ℕ) (b : Enough h) where
       (G : HeaderRow) → header_in bs ≡ Some G → HeaderTold bs (Some G) → eqb G.letter letter ≡ true →
       (z : Bool) → within G ≡ z → MakeExact letter h bs (cond z (Ok (empty_sheet G)) (Err OverLimit))
   by_within G e told el true ew =
-      let p = and_split (leb (G.labels + G.free) 32) _ ew in
-      let q = and_split (leb G.terms 64) (leb G.constraints 128) p.1 in (
+      let p = and_parts (leb (G.labels + G.free) 32) _ ew in
+      let q = and_parts (leb G.terms 64) (leb G.constraints 128) p.1 in (
         begun G ew,
         (
           subjects G,

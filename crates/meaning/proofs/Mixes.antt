@@ -1,4 +1,4 @@
--- What every mix keeps: the sheet of a trial that is reached is full, `reached_full`, and its state comes by a run of the calculus on which the verdict rests, `reached_tried`.
+-- What every mix keeps: the sheet of a trial that is reached is full, and its state comes by a run of the calculus on which the verdict rests, `reached_tried`.
 use Rattle.std.proofs.Common.{◌≡◌, ℕ, ◌+◌, ◌<◌, ◌≤◌, List, [], ◌∷◌, length, sym, refl, subst, ⊎_elim, arith, length-append}
 use mathlib.Core.Option.{Option}
 use Rattle.std.specs.List.{AllByRecursion}
@@ -8,7 +8,7 @@ use Rattle.meaning.specs.Meaning.{Satisfies}
 use Rattle.meaning.specs.Calculus.{Alt, Branch, extend, Fork, State, running, closed, enter, apply, Step, Run, start}
 use Rattle.meaning.specs.Calculus
 use Rattle.meaning.specs.Model.{Lawful, Named}
-use Rattle.meaning.specs.Mixes.{most_sheet_names, most_terms, most_constraints, most_names, most_facts, most_forks, most_records, code, Header, Made, Draft, fresh, Verdict, undecided, CLOSED, OPEN, Trial, verdict_at, counted, Stage, filling, trying, settled, Call, add, seal, step, settle, Grants, label_row, term_row, constraint_row, full_sheet, rule_step, model_step, verdict_there, denied_at, Goes, granted, denied, Mix, end, next}
+use Rattle.meaning.specs.Mixes.{most_sheet_names, most_terms, most_constraints, most_names, most_facts, most_forks, most_records, code, Header, Made, Draft, fresh, Verdict, undecided, CLOSED, OPEN, Trial, verdict_at, counted, Stage, filling, trying, settled, Call, step, Grants, label_row, term_row, constraint_row, full_sheet, rule_step, model_step, verdict_there, denied_at, Goes, granted, denied, Mix, end, next}
 use Rattle.meaning.specs.Law.{Reaches}
 use Rattle.meaning.proofs.Drafts.{full_fresh, full_code, full_row, full_constraint}
 
@@ -165,11 +165,7 @@ module _ (K : ℕ → Option ℕ) where
 
   denied_kept : (st : Stage) (c : Call) → Kept K st → Kept K (denied_at st c)
   denied_kept (trying T) (step bs) f = counted_kept T f
-  denied_kept (trying T) (add bs) f = f
-  denied_kept (trying T) seal f = f
-  denied_kept (trying T) settle f = f
-  denied_kept (filling D) c f = f
-  denied_kept (settled T) c f = f
+  denied_kept _ _ f = f
 
   pub goes_kept : {st st' : Stage} {c : Call} → Goes K st c st' → Kept K st → Kept K st'
   goes_kept (granted g) f = grants_kept g f
@@ -195,6 +191,3 @@ module _ (K : ℕ → Option ℕ) where
   reached_tried {T} r =
       let k = mix_kept r.mix (made_kept r.made) in
       ⊎_elim (λ e. subst (Kept K) e k) (λ e. subst (Kept K) e k) r.ends
-
-  pub reached_full : {T : Trial} → Reaches K T → Full T.sheet
-  reached_full r = (reached_tried r).whole.full
