@@ -1,6 +1,6 @@
 -- What each term row holds, as tuples of representatives, from what its operands hold; and where the values
 -- of the terms lie in the store.
-use Rattle.std.specs.Prelude.{◌≡◌, ℕ, ◌+◌, ◌<◌, ◌≤◌, Bool, true, false, cond, ◌&&◌, List, map, length, Some, None, Option, ◌==◌, nat_lt, slice_index, slice_index_or}
+use Rattle.std.specs.Prelude.{◌≡◌, ℕ, ◌+◌, ◌<◌, ◌≤◌, true, false, cond, ◌&&◌, List, map, length, Some, None, Option, ◌==◌, nat_lt, slice_index, slice_index_or}
 use Rattle.records.specs.declared.rows.Fact.{Fact}
 use Rattle.records.specs.declared.rows.TermRow.{TermRow}
 use Rattle.rules.specs.Looked.{row_at}
@@ -123,7 +123,7 @@ pub record Valued (rs : List ℕ) (facts : List Fact) (rows : List TermRow) (k :
 
 -- What evaluation answers: all values are in the store, or, where all is fair, they have more tuples than it
 -- has places.
-abbrev pub Evaluated : List ℕ → List Fact → List TermRow → List Tuple → List ℕ → Bool → Type 0
-Evaluated rs facts rows xs ends true = Valued rs facts rows (length rows) xs ends
-Evaluated rs facts rows xs ends false =
+abbrev pub Evaluated : List ℕ → List Fact → List TermRow → List Tuple → List ℕ → Option (Unit {0}) → Type 0
+Evaluated rs facts rows xs ends (Some _) = Valued rs facts rows (length rows) xs ends
+Evaluated rs facts rows xs ends None =
     Fairly rs facts rows (λ P. length xs < tuples_in (read_sheet P) (named_by P facts rs))

@@ -2,7 +2,7 @@
 ghost use Rattle.std.specs.Prelude.{◌≡◌, ◌<◌, ◌≤◌, length, Decides};
 ghost use Rattle.values.specs.Sets.{In};
 ghost use Rattle.values.specs.Store.{value_at, Below};
-ghost use Rattle.models.specs.Constraints.{form_of, Includes, FormSays, Satisfied};
+ghost use Rattle.models.specs.Constraints.{Includes, FormSays, Satisfied};
 ghost use Rattle.models.specs.Constraints.{IsStored, Spans, IsFirstFalse};
 
 use super::evaluation::{span, tuple_of};
@@ -10,17 +10,6 @@ use super::kinds::Form;
 use super::lawful::representative;
 use records::rows::Fact;
 use values::tuple::{Span, Tuple};
-
-// The form with this number; equality of terms for all but 1 and 2.
-fn form(number: u8) -> Form
-    ensures { result ≡ form_of number }
-{
-    match number {
-        1 => Form::Member,
-        2 => Form::EqualNames,
-        _ => Form::EqualTerms,
-    }
-}
 
 // Whether each tuple of s is in r.
 fn within(store: &[Tuple], s: Span, r: Span) -> bool
@@ -63,7 +52,7 @@ fn holds(store: &[Tuple], ends: &[usize], representatives: &[u8], k: usize, f: F
 {
     let s = span(ends, k, f.term);
     let r = span(ends, k, f.a);
-    let m = form(f.form);
+    let m = Form::from(f.form);
     let yes = says(store, representatives, m, f, s, r);
     yes == f.positive
 }

@@ -9,30 +9,12 @@ ghost use Rattle.values.specs.Store.{same_tuple, value_at, Filled, Below};
 ghost use Rattle.values.specs.Makes.{listed};
 ghost use Rattle.values.specs.Gathers.{Gathered};
 ghost use Rattle.models.specs.Tuples.{by_names};
-ghost use Rattle.models.specs.Rows.{operation_of, row_tuple, offered, RowHolds, span_of, Evaluated};
+ghost use Rattle.models.specs.Rows.{row_tuple, offered, RowHolds, span_of, Evaluated};
 
 use super::kinds::Operation;
 use super::lawful::representative;
 use records::rows::{Fact, TermRow};
 use values::tuple::{Span, Tuple};
-
-// The operation with this number; closure for all past 8.
-fn operation(number: u8) -> Operation
-    ensures { result ≡ operation_of number }
-{
-    match number {
-        0 => Operation::Variable,
-        1 => Operation::Empty,
-        2 => Operation::Single,
-        3 => Operation::Union,
-        4 => Operation::Intersection,
-        5 => Operation::Difference,
-        6 => Operation::Transpose,
-        7 => Operation::Product,
-        8 => Operation::Join,
-        _ => Operation::Closure,
-    }
-}
 
 // The tuple of the representatives of four names.
 pub(crate) fn tuple_of(representatives: &[u8], a: u8, b: u8, c: u8, d: u8) -> Tuple
@@ -74,10 +56,7 @@ fn fill_variable(
     let mut n = start;
     for i in 0..facts.len() {
         let o = tuple_for(representatives, k, facts[i]);
-        let Some(more) = values::offer(store, start, n, o) else {
-            return None;
-        };
-        n = more;
+        n = values::offer(store, start, n, o)?;
     }
     Some(n)
 }
@@ -180,15 +159,15 @@ fn arity(terms: &[TermRow], j: u8) -> u8
     }
 }
 
-// Puts the values of all rows into the store, one after another, and where each ends into `ends`; whether
-// there was room for all.
+// Puts the values of all rows into the store, one after another, and where each ends into `ends`; nothing where
+// there is no room for all.
 pub(crate) fn evaluate(
     store: &mut [Tuple],
     ends: &mut [usize],
     representatives: &[u8],
     facts: &[Fact],
     terms: &[TermRow],
-) -> bool
+) -> Option<()>
     requires long { length terms.now < length ends.old }
     ensures { Evaluated representatives.now facts.now terms.now
         store.new ends.new result }
@@ -200,12 +179,8 @@ pub(crate) fn evaluate(
         let p = arity(terms, row.a);
         let s = span(ends, k, row.a);
         let r = span(ends, k, row.b);
-        let op = operation(row.op);
-        let Some(end) = evaluate_row(store, start, representatives, facts, op, row, k, p, s, r)
-        else {
-            return false;
-        };
-        ends[k + 1] = end;
+        let op = Operation::from(row.op);
+        ends[k + 1] = evaluate_row(store, start, representatives, facts, op, row, k, p, s, r)?;
     }
-    true
+    Some(())
 }

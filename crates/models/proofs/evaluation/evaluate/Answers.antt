@@ -21,23 +21,23 @@ evaluate_row-requires c =
       right = subst (λ (s : Span). Below s (get_or c.loop-k.ends c.loop-k.k 0)) (sym c.span-r.ensures) (below _);
     }
 
-pub returns-in_default : goal.returns-in_default
-returns-in_default c codes free constraints n ground =
+pub returns-in_err-ends : goal.returns-in_err-ends
+returns-in_err-ends c = rw c.from_residual.ensures (λ codes free constraints n ground.
     let g = held_in_hand c.args.representatives.now c.args.facts.now c.args.terms.now c.loop-k.k c.loop-k-test.true
     c.loop-k.store c.loop-k.ends c.loop-k.invariant c.evaluate_row.new.store None _ _ _ _
-    c.operation-op.ensures c.arity-p.ensures c.span-s.ensures c.span-r.ensures c.in_default.ensures in
+    c.from-op.ensures c.arity-p.ensures c.span-s.ensures c.span-r.ensures c.in_err-ends.ensures in
     let P = with_rows codes free constraints c.args.terms.now in
     subst (λ (i : ℕ). i < tuples_in (read_sheet P) (named_by P c.args.facts.now c.args.representatives.now)) (sym g.0.long)
     (over P c.args.facts.now n c.args.representatives.now ground c.loop-k.k c.loop-k-test.true
-    c.loop-k.store c.loop-k.ends c.loop-k.invariant.laid (c.loop-k.invariant.values codes free constraints n ground) g.1)
+    c.loop-k.store c.loop-k.ends c.loop-k.invariant.laid (c.loop-k.invariant.values codes free constraints n ground) g.1))
 
 pub loop-k-preserved : goal.loop-k-preserved
 loop-k-preserved c =
     let g = held_in_hand c.args.representatives.now c.args.facts.now c.args.terms.now c.loop-k.k c.loop-k-test.true
-    c.loop-k.store c.loop-k.ends c.loop-k.invariant c.evaluate_row.new.store (Some c.in-Some.end) _ _ _ _
-    c.operation-op.ensures c.arity-p.ensures c.span-s.ensures c.span-r.ensures c.in-Some.ensures in
+    c.loop-k.store c.loop-k.ends c.loop-k.invariant c.evaluate_row.new.store (Some c.in_ok-ends.field-0) _ _ _ _
+    c.from-op.ensures c.arity-p.ensures c.span-s.ensures c.span-r.ensures c.in_ok-ends.ensures in
     valued_more c.args.representatives.now c.args.facts.now c.args.terms.now c.loop-k.k c.loop-k-test.true
-    c.loop-k.store c.loop-k.ends c.loop-k.invariant c.evaluate_row.new.store c.in-Some.end
+    c.loop-k.store c.loop-k.ends c.loop-k.invariant c.evaluate_row.new.store c.in_ok-ends.field-0
     (omega (arith, length-set c.args.ends.now 0 0)) g.0 g.1
 
 pub returns : goal.returns
