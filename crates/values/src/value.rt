@@ -1,0 +1,238 @@
+// Values at the front of lent slots, what puts tuples into them, and the operations.
+ghost use Rattle.std.specs.Prelude.{◌≡◌, ◌<◌, ◌≤◌, [], Option, length, position};
+ghost use Rattle.std.specs.List.{flat_map};
+ghost use Rattle.values.specs.Sets.{has, put, puts, In};
+ghost use Rattle.values.specs.Tuples.{same_tuple, turning, following, joining, linked};
+ghost use Rattle.values.specs.Gathers.{listed, Filled, Either, Both, Without, Made, Paired, Reach};
+
+use crate::tuple::Tuple;
+
+// A value: its tuples stand at the front of the slots, each once and in the order in which they came. What the
+// other slots hold does not matter.
+#[derive(Drop)]
+pub struct Value<'a> {
+    pub slots: &'a mut [Tuple],
+    pub len: usize,
+    pub ghost within: { len ≤ length slots.now },
+}
+
+// Where a tuple stands in a value, counted from 0: it was there already, or it was added behind the others.
+#[derive(Clone, Copy, Debug, PartialEq, Eq)]
+pub enum Placed {
+    There(usize),
+    Added(usize),
+}
+
+// Whether t is one of the tuples.
+pub fn contains(tuples: &[Tuple], t: Tuple) -> bool
+    ensures { result ≡ has same_tuple tuples.now t }
+{
+    tuples.contains(&t)
+}
+
+impl<'a> Value<'a> {
+    ghost use Rattle.values.specs.Held.{held, SameSlots, Pushed, Inserted, Gathered, StandsIn};
+
+    // The empty value.
+    pub fn new(slots: &'a mut [Tuple]) -> Value<'a>
+        ensures held { held result ≡ [] }
+        ensures slots { result.slots.now ≡ slots.old }
+        ensures same { result.slots.ghost_name ≡ slots.entry.ghost_name }
+    {
+        Value { slots, len: 0 }
+    }
+
+    // Its tuples.
+    pub fn tuples(&self) -> &[Tuple]
+        ensures { result.now ≡ held self.now }
+    {
+        &self.slots[..self.len]
+    }
+
+    // How many they are.
+    pub fn len(&self) -> usize
+        ensures { result ≡ length (held self.now) }
+    {
+        self.tuples().len()
+    }
+
+    // The first place where t stands.
+    fn place_of(&self, t: Tuple) -> Option<usize>
+        ensures { result ≡ position (λ x. same_tuple x t) (held self.now) }
+    {
+        self.tuples().iter().position(|x| *x == t)
+    }
+
+    // Puts t behind the others, and answers its place; nothing where there is no room.
+    fn push(&mut self, t: Tuple) -> Option<usize>
+        ensures pushed { Pushed self.old.slots.now self.old.len t
+            self.new.slots.now self.new.len result }
+        ensures same { SameSlots self.old self.new }
+    {
+        let place = self.len;
+        if place == self.slots.len() {
+            return None;
+        }
+        self.slots[place] = t;
+        self.len += 1;
+        Some(place)
+    }
+
+    // Puts t in: it is compared with those there in order, and if it is none of them it stands behind them.
+    // Nothing where there is no room.
+    pub fn insert(&mut self, t: Tuple) -> Option<Placed>
+        ensures inserted { Inserted self.old.slots.now self.old.len t
+            self.new.slots.now self.new.len result }
+        ensures same { SameSlots self.old self.new }
+    {
+        match self.place_of(t) {
+            Some(place) => Some(Placed::There(place)),
+            None => Some(Placed::Added(self.push(t)?)),
+        }
+    }
+
+    // Puts a tuple in, if there is one; nothing where there is no room.
+    pub fn offer(&mut self, o: Option<Tuple>) -> Option<()>
+        ensures filled { Filled (length self.old.slots.now)
+            (puts same_tuple (held self.old) (listed o)) (held self.new) result }
+        ensures same { SameSlots self.old self.new }
+    {
+        if let Some(t) = o {
+            self.insert(t)?;
+        }
+        Some(())
+    }
+
+    // Puts in what each element of a list makes, in their order; nothing where there is no room.
+    pub fn insert_made<T: Copy, F: Fn(T) -> Option<Tuple>>(
+        &mut self,
+        list: &[T],
+        make: F,
+    ) -> Option<()>
+        requires { F.IsAlwaysCallable make }
+        ensures filled { (m : T → Option Tuple) →
+            ((x : T) → In list.now x → (o : Option Tuple) → F.post make x o → o ≡ m x) →
+            Filled (length self.old.slots.now)
+            (puts same_tuple (held self.old) (flat_map (λ x. listed (m x)) list.now))
+            (held self.new) result }
+        ensures same { SameSlots self.old self.new }
+    {
+        for &x in list {
+            self.offer(make(x))?;
+        }
+        Some(())
+    }
+
+    // Puts in all tuples of a list.
+    pub fn insert_all(&mut self, list: &[Tuple]) -> Option<()>
+        ensures filled { Filled (length self.old.slots.now)
+            (puts same_tuple (held self.old) list.now) (held self.new) result }
+        ensures same { SameSlots self.old self.new }
+    {
+        self.insert_made(list, |x| Some(x))
+    }
+
+    // The tuples of s and those of r.
+    pub fn union(slots: &'a mut [Tuple], s: &[Tuple], r: &[Tuple]) -> Option<Value<'a>>
+        ensures gathered { Gathered (Either (In s.now) (In r.now)) (length slots.old) result }
+        ensures same { StandsIn slots.entry result }
+    {
+        let mut value = Value::new(slots);
+        value.insert_all(s)?;
+        value.insert_all(r)?;
+        Some(value)
+    }
+
+    // What the elements of a list make.
+    pub fn made<T: Copy, F: Fn(T) -> Option<Tuple>>(
+        slots: &'a mut [Tuple],
+        list: &[T],
+        make: F,
+    ) -> Option<Value<'a>>
+        requires { F.IsAlwaysCallable make }
+        ensures gathered { (m : T → Option Tuple) →
+            ((x : T) → In list.now x → (o : Option Tuple) → F.post make x o → o ≡ m x) →
+            Gathered (Made m (In list.now)) (length slots.old) result }
+        ensures same { StandsIn slots.entry result }
+    {
+        let mut value = Value::new(slots);
+        value.insert_made(list, make)?;
+        Some(value)
+    }
+
+    // The tuples of s that are in r.
+    pub fn intersection(slots: &'a mut [Tuple], s: &[Tuple], r: &[Tuple]) -> Option<Value<'a>>
+        ensures gathered { Gathered (Both (In s.now) (In r.now)) (length slots.old) result }
+        ensures same { StandsIn slots.entry result }
+    {
+        Value::made(slots, s, |x| if contains(r, x) { Some(x) } else { None })
+    }
+
+    // The tuples of s that are not in r.
+    pub fn difference(slots: &'a mut [Tuple], s: &[Tuple], r: &[Tuple]) -> Option<Value<'a>>
+        ensures gathered { Gathered (Without (In s.now) (In r.now)) (length slots.old) result }
+        ensures same { StandsIn slots.entry result }
+    {
+        Value::made(slots, s, |x| if contains(r, x) { None } else { Some(x) })
+    }
+
+    // The tuples of s, which have arity p, the other way round.
+    pub fn transpose(slots: &'a mut [Tuple], s: &[Tuple], p: u8) -> Option<Value<'a>>
+        ensures gathered { Gathered (Made (turning p) (In s.now)) (length slots.old) result }
+        ensures same { StandsIn slots.entry result }
+    {
+        Value::made(slots, s, |x| Some(x.turned(p)))
+    }
+
+    // What pairs of a tuple of s and one of r make.
+    fn pairs<F: Fn(Tuple, Tuple) -> Option<Tuple>>(
+        slots: &'a mut [Tuple],
+        s: &[Tuple],
+        r: &[Tuple],
+        make: F,
+    ) -> Option<Value<'a>>
+        requires { F.IsAlwaysCallable make }
+        ensures gathered { (m : Tuple → Tuple → Option Tuple) →
+            ((x : Tuple) → In s.now x → (y : Tuple) → In r.now y → (o : Option Tuple) → F.post make x y o → o ≡ m x y) →
+            Gathered (Paired m (In s.now) (In r.now)) (length slots.old) result }
+        ensures same { StandsIn slots.entry result }
+    {
+        let mut value = Value::new(slots);
+        for &x in s {
+            value.insert_made(r, |y| make(x, y))?;
+        }
+        Some(value)
+    }
+
+    // Each tuple of s, of arity p, with each of r behind it.
+    pub fn product(slots: &'a mut [Tuple], s: &[Tuple], p: u8, r: &[Tuple]) -> Option<Value<'a>>
+        ensures gathered { Gathered (Paired (following p) (In s.now) (In r.now)) (length slots.old) result }
+        ensures same { StandsIn slots.entry result }
+    {
+        Value::pairs(slots, s, r, |x, y| Some(x.joined(p, y)))
+    }
+
+    // Each tuple of s, of arity p, joined to each of r that begins with its last name.
+    pub fn join(slots: &'a mut [Tuple], s: &[Tuple], p: u8, r: &[Tuple]) -> Option<Value<'a>>
+        ensures gathered { Gathered (Paired (joining p) (In s.now) (In r.now)) (length slots.old) result }
+        ensures same { StandsIn slots.entry result }
+    {
+        Value::pairs(slots, s, r, |x, y| x.join(p, y))
+    }
+
+    // The pairs that are linked by a chain of pairs of s: each pair that comes in is joined to all of s, once.
+    pub fn closure(slots: &'a mut [Tuple], s: &[Tuple]) -> Option<Value<'a>>
+        ensures gathered { Gathered (Reach linked (In s.now)) (length slots.old) result }
+        ensures same { StandsIn slots.entry result }
+    {
+        let mut value = Value::new(slots);
+        value.insert_all(s)?;
+        let mut i = 0;
+        while i < value.len() {
+            let x = value.tuples()[i];
+            value.insert_made(s, |y| x.join(2, y))?;
+            i += 1;
+        }
+        Some(value)
+    }
+}
