@@ -4,10 +4,10 @@ use Rattle.std.proofs.Common.{◌≡◌, ℕ, ◌<◌, Bool, true, false, cond, 
 use Rattle.std.specs.List.{flat_map}
 use Rattle.std.proofs.lemmas.Bool.{cases_Bool}
 use Rattle.values.specs.Sets.{has, puts, In}
-use Rattle.values.specs.Tuples.{same_tuple}
+use Rattle.records.specs.Tuples.{equal_names}
 use Rattle.values.specs.Gathers.{listed, Denotes, Crowd, Either, Both, Without, Made, Paired}
 use Rattle.values.specs.Held.{Gathered}
-use Rattle.values.specs.declared.tuple.Tuple.{Tuple}
+use Rattle.records.specs.declared.tuple.Tuple.{Tuple}
 use Rattle.values.specs.declared.value.Value.{Value}
 use Rattle.values.proofs.Theory.{in_left, in_right, in_cases, apart_puts, puts_new, puts_from, has_in, in_has, has_not}
 use Rattle.values.proofs.Inserting.{same_law}
@@ -80,10 +80,10 @@ module _ (m : Tuple → Tuple → Option Tuple) (s r : List Tuple) (t : Tuple) w
 
 -- the sieves: x if it is in r, and if it is not
 abbrev pub kept : List Tuple → Tuple → Option Tuple
-kept r x = cond (has same_tuple r x) (Some x) None
+kept r x = cond (has equal_names r x) (Some x) None
 
 abbrev pub left : List Tuple → Tuple → Option Tuple
-left r x = cond (has same_tuple r x) None (Some x)
+left r x = cond (has equal_names r x) None (Some x)
 
 kept_is : (b : Bool) (x t : Tuple) → cond b (Some x) None ≡ Some t → (b ≡ true) × (x ≡ t)
 kept_is true x t e = (refl, ⊎_elim (λ p. p) (λ q. absurd q) (listed_to (Some x) t e))
@@ -96,23 +96,23 @@ left_is true x t e = absurd (listed_to None t e)
 module _ (s r : List Tuple) (t : Tuple) where
   pub both_from : Made (kept r) (In s) t → Both (In s) (In r) t
   both_from q =
-      let o = kept_is (has same_tuple r q.0) q.0 t q.2 in
-      (subst (In s) o.1 q.1, subst (In r) o.1 (has_in same_tuple same_law r q.0 o.0))
+      let o = kept_is (has equal_names r q.0) q.0 t q.2 in
+      (subst (In s) o.1 q.1, subst (In r) o.1 (has_in equal_names same_law r q.0 o.0))
 
   pub both_to : Both (In s) (In r) t → Made (kept r) (In s) t
-  both_to q = (t, q.0, rw (in_has same_tuple same_law r t q.1) refl)
+  both_to q = (t, q.0, rw (in_has equal_names same_law r t q.1) refl)
 
   pub without_from : Made (left r) (In s) t → Without (In s) (In r) t
   without_from q =
-      let o = left_is (has same_tuple r q.0) q.0 t q.2 in
-      (subst (In s) o.1 q.1, λ i. has_not same_tuple same_law r t (subst (λ x. has same_tuple r x ≡ false) o.1 o.0) i)
+      let o = left_is (has equal_names r q.0) q.0 t q.2 in
+      (subst (In s) o.1 q.1, λ i. has_not equal_names same_law r t (subst (λ x. has equal_names r x ≡ false) o.1 o.0) i)
 
   pub without_to : Without (In s) (In r) t → Made (left r) (In s) t
   without_to q =
       ⊎_elim
-      (λ (p : has same_tuple r t ≡ true). absurd (q.1 (has_in same_tuple same_law r t p)))
-      (λ (p : has same_tuple r t ≡ false). (t, q.0, rw p refl))
-      (cases_Bool (has same_tuple r t))
+      (λ (p : has equal_names r t ≡ true). absurd (q.1 (has_in equal_names same_law r t p)))
+      (λ (p : has equal_names r t ≡ false). (t, q.0, rw p refl))
+      (cases_Bool (has equal_names r t))
 
   pub either_from : In (s ++ r) t → Either (In s) (In r) t
   either_from m = in_cases s r t m

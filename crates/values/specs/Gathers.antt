@@ -1,7 +1,7 @@
 -- What values hold: exactly the elements of a relation, each once; and the relation of each operation.
 use Rattle.std.specs.Prelude.{◌≡◌, ℕ, ◌<◌, ◌⊎◌, List, [], ◌∷◌, length, Some, None, Option}
 use Rattle.values.specs.Sets.{In, Apart}
-use Rattle.values.specs.declared.tuple.Tuple.{Tuple}
+use Rattle.records.specs.declared.tuple.Tuple.{Tuple}
 
 -- An element, if there is one, as a list.
 abbrev pub listed : {X : Type 0} → Option X → List X

@@ -2,9 +2,9 @@
 use Rattle.std.specs.Prelude.{◌≡◌, ℕ, ◌+◌, ◌<◌, false, List, length, take, Some, None, Option, IfSome, slice_index_or, slice_set}
 use Rattle.std.specs.Borrow.{MutBor}
 use Rattle.values.specs.Sets.{has}
-use Rattle.values.specs.Tuples.{same_tuple}
+use Rattle.records.specs.Tuples.{equal_names}
 use Rattle.values.specs.Gathers.{Denotes, Crowd}
-use Rattle.values.specs.declared.tuple.Tuple.{Tuple}
+use Rattle.records.specs.declared.tuple.Tuple.{Tuple}
 use Rattle.values.specs.declared.value.Placed.{Placed}
 use Rattle.values.specs.declared.value.Placed.TheVariants.{There, Added}
 use Rattle.values.specs.declared.value.Value.{Value}
@@ -28,10 +28,10 @@ Pushed xs j t ys m None = (length xs ≡ j) × (ys ≡ xs) × (m ≡ j)
 -- there is no room, and nothing changed.
 abbrev pub Inserted : List Tuple → ℕ → Tuple → List Tuple → ℕ → Option Placed → Type 0
 Inserted xs j t ys m (Some (There k)) =
-    (k < j) × (slice_index_or xs k t ≡ t) × (has same_tuple (take k xs) t ≡ false) × (ys ≡ xs) × (m ≡ j)
+    (k < j) × (slice_index_or xs k t ≡ t) × (has equal_names (take k xs) t ≡ false) × (ys ≡ xs) × (m ≡ j)
 Inserted xs j t ys m (Some (Added k)) =
-    (k ≡ j) × (j < length xs) × (has same_tuple (take j xs) t ≡ false) × (ys ≡ slice_set xs j t) × (m ≡ j + 1)
-Inserted xs j t ys m None = (length xs ≡ j) × (has same_tuple (take j xs) t ≡ false) × (ys ≡ xs) × (m ≡ j)
+    (k ≡ j) × (j < length xs) × (has equal_names (take j xs) t ≡ false) × (ys ≡ slice_set xs j t) × (m ≡ j + 1)
+Inserted xs j t ys m None = (length xs ≡ j) × (has equal_names (take j xs) t ≡ false) × (ys ≡ xs) × (m ≡ j)
 
 -- The value that is answered holds just what has R; or more tuples have R than there are slots.
 abbrev pub Gathered : (Tuple → Type 0) → ℕ → Option Value → Type 0

@@ -2,5 +2,4 @@
 //! operations that make a new value from earlier ones.
 #![tactic(auto)]
 
-pub mod tuple;
 pub mod value;

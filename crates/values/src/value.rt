@@ -1,14 +1,15 @@
 // Values at the front of lent slots, what puts tuples into them, and the operations.
-ghost use Rattle.std.specs.Prelude.{◌≡◌, ◌<◌, ◌≤◌, [], Option, length, position};
+ghost use Rattle.std.specs.Prelude.{◌≡◌, ◌<◌, ◌≤◌, [], Option, drop, length, position};
 ghost use Rattle.std.specs.List.{flat_map};
 ghost use Rattle.values.specs.Sets.{has, put, puts, In};
-ghost use Rattle.values.specs.Tuples.{same_tuple, turning, following, joining, linked};
+ghost use Rattle.records.specs.Tuples.{equal_names};
+ghost use Rattle.values.specs.Tuples.{reversed, turning, following, joining, linked};
 ghost use Rattle.values.specs.Gathers.{listed, Filled, Either, Both, Without, Made, Paired, Reach};
 
-use crate::tuple::Tuple;
+use records::tuple::Tuple;
 
-// A value: its tuples stand at the front of the slots, each once and in the order in which they came. What the
-// other slots hold does not matter.
+// A value: its tuples stand at the front of the slots, in the order in which they came. What the other slots hold
+// does not matter.
 #[derive(Drop)]
 pub struct Value<'a> {
     pub slots: &'a mut [Tuple],
@@ -23,9 +24,31 @@ pub enum Placed {
     Added(usize),
 }
 
+// A tuple of arity p the other way round; one of another arity than 1 to 4 stays as it is.
+fn turned(x: Tuple, p: u8) -> Tuple
+    ensures { result ≡ reversed p x }
+{
+    match p {
+        2..=4 => x.reversed(p),
+        _ => x,
+    }
+}
+
+// The tuple x, of arity p, joined to y, if y begins with its last name: both then lose that name.
+fn link(x: Tuple, p: u8, y: Tuple) -> Option<Tuple>
+    ensures { result ≡ joining p x y }
+{
+    let last = p.saturating_sub(1);
+    if x.at(last) == y.a {
+        Some(x.joined(last, y.rest_from(1)))
+    } else {
+        None
+    }
+}
+
 // Whether t is one of the tuples.
 pub fn contains(tuples: &[Tuple], t: Tuple) -> bool
-    ensures { result ≡ has same_tuple tuples.now t }
+    ensures { result ≡ has equal_names tuples.now t }
 {
     tuples.contains(&t)
 }
@@ -56,9 +79,19 @@ impl<'a> Value<'a> {
         self.tuples().len()
     }
 
+    // Its tuples, and the slots behind them.
+    pub fn split(self) -> (&'a [Tuple], &'a mut [Tuple])
+        ensures held { result.0.now ≡ held self.entry }
+        ensures rest { result.1.now ≡ drop self.entry.len self.entry.slots.now }
+    {
+        let Value { slots, len } = self;
+        let (tuples, rest) = slots.split_at_mut(len);
+        (tuples, rest)
+    }
+
     // The first place where t stands.
     fn place_of(&self, t: Tuple) -> Option<usize>
-        ensures { result ≡ position (λ x. same_tuple x t) (held self.now) }
+        ensures { result ≡ position (λ x. equal_names x t) (held self.now) }
     {
         self.tuples().iter().position(|x| *x == t)
     }
@@ -94,7 +127,7 @@ impl<'a> Value<'a> {
     // Puts a tuple in, if there is one; nothing where there is no room.
     pub fn offer(&mut self, o: Option<Tuple>) -> Option<()>
         ensures filled { Filled (length self.old.slots.now)
-            (puts same_tuple (held self.old) (listed o)) (held self.new) result }
+            (puts equal_names (held self.old) (listed o)) (held self.new) result }
         ensures same { SameSlots self.old self.new }
     {
         if let Some(t) = o {
@@ -113,7 +146,7 @@ impl<'a> Value<'a> {
         ensures filled { (m : T → Option Tuple) →
             ((x : T) → In list.now x → (o : Option Tuple) → F.post make x o → o ≡ m x) →
             Filled (length self.old.slots.now)
-            (puts same_tuple (held self.old) (flat_map (λ x. listed (m x)) list.now))
+            (puts equal_names (held self.old) (flat_map (λ x. listed (m x)) list.now))
             (held self.new) result }
         ensures same { SameSlots self.old self.new }
     {
@@ -126,7 +159,7 @@ impl<'a> Value<'a> {
     // Puts in all tuples of a list.
     pub fn insert_all(&mut self, list: &[Tuple]) -> Option<()>
         ensures filled { Filled (length self.old.slots.now)
-            (puts same_tuple (held self.old) list.now) (held self.new) result }
+            (puts equal_names (held self.old) list.now) (held self.new) result }
         ensures same { SameSlots self.old self.new }
     {
         self.insert_made(list, |x| Some(x))
@@ -181,7 +214,7 @@ impl<'a> Value<'a> {
         ensures gathered { Gathered (Made (turning p) (In s.now)) (length slots.old) result }
         ensures same { StandsIn slots.entry result }
     {
-        Value::made(slots, s, |x| Some(x.turned(p)))
+        Value::made(slots, s, |x| Some(turned(x, p)))
     }
 
     // What pairs of a tuple of s and one of r make.
@@ -217,7 +250,7 @@ impl<'a> Value<'a> {
         ensures gathered { Gathered (Paired (joining p) (In s.now) (In r.now)) (length slots.old) result }
         ensures same { StandsIn slots.entry result }
     {
-        Value::pairs(slots, s, r, |x, y| x.join(p, y))
+        Value::pairs(slots, s, r, |x, y| link(x, p, y))
     }
 
     // The pairs that are linked by a chain of pairs of s: each pair that comes in is joined to all of s, once.
@@ -230,7 +263,7 @@ impl<'a> Value<'a> {
         let mut i = 0;
         while i < value.len() {
             let x = value.tuples()[i];
-            value.insert_made(s, |y| x.join(2, y))?;
+            value.insert_made(s, |y| link(x, 2, y))?;
             i += 1;
         }
         Some(value)

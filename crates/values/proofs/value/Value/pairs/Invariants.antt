@@ -1,9 +1,9 @@
 use Rattle.std.proofs.Common.{◌≡◌, Option, [], drop}
 use Rattle.std.specs.List.{flat_map}
 use Rattle.values.specs.Sets.{puts, In}
-use Rattle.values.specs.Tuples.{same_tuple}
+use Rattle.records.specs.Tuples.{equal_names}
 use Rattle.values.specs.Held.{held, SameSlots}
-use Rattle.values.specs.declared.tuple.Tuple.{Tuple}
+use Rattle.records.specs.declared.tuple.Tuple.{Tuple}
 use Rattle.values.proofs.Relations.{made}
 use Rattle.values.proofs.value.Value.pairs.Given as goal
 
@@ -11,5 +11,5 @@ abbrev pub invariant-loop-x : goal.invariant-loop-x
 invariant-loop-x g l = record {
   same : SameSlots l.initial.value l.value;
   left : (m : Tuple → Tuple → Option Tuple) → ((x : Tuple) → In l.s x → (y : Tuple) → In l.r y → (o : Option Tuple) → goal.F-post g l.make x y o → o ≡ m x y) →
-      puts same_tuple (held l.value) (flat_map (λ x. made (m x) l.r) (drop l.x-index l.s)) ≡ puts same_tuple [] (flat_map (λ x. made (m x) l.r) l.s);
+      puts equal_names (held l.value) (flat_map (λ x. made (m x) l.r) (drop l.x-index l.s)) ≡ puts equal_names [] (flat_map (λ x. made (m x) l.r) l.s);
 }
