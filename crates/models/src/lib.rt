@@ -8,39 +8,34 @@ ghost use Rattle.models.specs.Checks.{Judged, Answers, Satisfying};
 pub mod branch;
 mod constraints;
 mod evaluation;
-mod kinds;
 mod lawful;
 #[cfg(test)]
 mod tests;
 
 use branch::{Branch, Model};
-use constraints::first_false;
-use evaluation::evaluate;
+use evaluation::{Values, evaluate};
 use labels::kind::Kind;
 use lawful::first_unlawful;
 use records::refusal::Refusal;
-use values::tuple::Tuple;
+use records::tuple::Tuple;
+
+// What stands for the values of terms that are not evaluated yet.
+fn no_values<'a>() -> [&'a [Tuple]; 64] {
+    [&[]; 64]
+}
 
 // The answer for lawful representatives: the terms are evaluated, and then the constraints taken in turn.
-fn judge_values(
-    store: &mut [Tuple],
-    ends: &mut [usize],
-    representatives: &[u8],
-    branch: &Branch,
-) -> Result<(), Refusal>
-    requires long { length branch.now.terms.now < length ends.old }
+fn judge_values(store: &mut [Tuple], representatives: &[u8], branch: &Branch) -> Result<(), Refusal>
     ensures { Judged representatives.now branch.now.facts.now
         branch.now.terms.now branch.now.constraints (length store.old) result }
 {
-    evaluate(store, ends, representatives, branch.facts, branch.terms).ok_or(Refusal::TuplesOver)?;
-    match first_false(
-        store,
-        ends,
+    let mut terms = no_values();
+    evaluate(store, &mut terms, representatives, branch).ok_or(Refusal::TuplesOver)?;
+    let values = Values {
         representatives,
-        branch.terms.len(),
-        branch.facts,
-        branch.constraints,
-    ) {
+        terms: &terms[..branch.terms.len()],
+    };
+    match values.first_false(branch) {
         Some(i) => Err(Refusal::ConstraintFalse(i)),
         None => Ok(()),
     }
@@ -70,11 +65,5 @@ pub fn check_model<K: Kind>(
     if let Some(e) = first_unlawful(kind, branch.labels, model.representatives, branch.names) {
         return Err(Refusal::Unlawful(e));
     }
-    let mut ends = [0; 65];
-    judge_values(
-        &mut tuples[0..4096],
-        &mut ends,
-        model.representatives,
-        branch,
-    )
+    judge_values(&mut tuples[0..4096], model.representatives, branch)
 }

@@ -5,7 +5,7 @@ use super::check_model;
 use labels::numbers::Numbers;
 use records::refusal::Refusal;
 use records::rows::{Fact, TermRow};
-use values::tuple::Tuple;
+use records::tuple::Tuple;
 
 // What is in the store at first.
 const NO_TUPLE: Tuple = Tuple {
