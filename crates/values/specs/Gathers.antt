@@ -13,6 +13,15 @@ abbrev pub Filled : {X A : Type 0} → ℕ → List X → List X → Option A �
 Filled room w v (Some _) = v ≡ w
 Filled room w v None = room < length w
 
+-- What is answered at each element of the list, by `post`, is what m makes of it;
+abbrev pub Makes : {T : Type 0} → (T → Option Tuple → Type 0) → List T → (T → Option Tuple) → Type 0
+Makes {T} post list m = (x : T) → In list x → (o : Option Tuple) → post x o → o ≡ m x
+
+-- and at each pair of elements of two lists.
+abbrev pub MakesPairs : (Tuple → Tuple → Option Tuple → Type 0) → List Tuple → List Tuple → (Tuple → Tuple → Option Tuple) → Type 0
+MakesPairs post s r m =
+    (x : Tuple) → In s x → (y : Tuple) → In r y → (o : Option Tuple) → post x y o → o ≡ m x y
+
 -- The list has each element with R once, and nothing else.
 pub record Denotes {X : Type 0} (R : X → Type 0) (v : List X) : Type 0 where
   pub apart : Apart v

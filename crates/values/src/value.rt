@@ -4,12 +4,12 @@ ghost use Rattle.std.specs.List.{flat_map};
 ghost use Rattle.values.specs.Sets.{has, put, puts, In};
 ghost use Rattle.records.specs.Tuples.{equal_names};
 ghost use Rattle.values.specs.Tuples.{reversed, turning, following, joining, linked};
-ghost use Rattle.values.specs.Gathers.{listed, Filled, Either, Both, Without, Made, Paired, Reach};
+ghost use Rattle.values.specs.Gathers.{listed, Filled, Makes, MakesPairs, Either, Both, Without, Made, Paired, Reach};
 
 use records::tuple::Tuple;
 
 // A value: its tuples stand at the front of the slots, in the order in which they came. What the other slots hold
-// does not matter.
+// does not matter. Slots and a length, since there is no heap: the slots are lent.
 #[derive(Drop)]
 pub struct Value<'a> {
     pub slots: &'a mut [Tuple],
@@ -137,14 +137,10 @@ impl<'a> Value<'a> {
     }
 
     // Puts in what each element of a list makes, in their order; nothing where there is no room.
-    pub fn insert_made<T: Copy, F: Fn(T) -> Option<Tuple>>(
-        &mut self,
-        list: &[T],
-        make: F,
-    ) -> Option<()>
+    fn insert_made<T: Copy, F: Fn(T) -> Option<Tuple>>(&mut self, list: &[T], make: F) -> Option<()>
         requires { F.IsAlwaysCallable make }
         ensures filled { (m : T → Option Tuple) →
-            ((x : T) → In list.now x → (o : Option Tuple) → F.post make x o → o ≡ m x) →
+            Makes (F.post make) list.now m →
             Filled (length self.old.slots.now)
             (puts equal_names (held self.old) (flat_map (λ x. listed (m x)) list.now))
             (held self.new) result }
@@ -157,7 +153,7 @@ impl<'a> Value<'a> {
     }
 
     // Puts in all tuples of a list.
-    pub fn insert_all(&mut self, list: &[Tuple]) -> Option<()>
+    fn insert_all(&mut self, list: &[Tuple]) -> Option<()>
         ensures filled { Filled (length self.old.slots.now)
             (puts equal_names (held self.old) list.now) (held self.new) result }
         ensures same { SameSlots self.old self.new }
@@ -184,7 +180,7 @@ impl<'a> Value<'a> {
     ) -> Option<Value<'a>>
         requires { F.IsAlwaysCallable make }
         ensures gathered { (m : T → Option Tuple) →
-            ((x : T) → In list.now x → (o : Option Tuple) → F.post make x o → o ≡ m x) →
+            Makes (F.post make) list.now m →
             Gathered (Made m (In list.now)) (length slots.old) result }
         ensures same { StandsIn slots.entry result }
     {
@@ -198,7 +194,7 @@ impl<'a> Value<'a> {
         ensures gathered { Gathered (Both (In s.now) (In r.now)) (length slots.old) result }
         ensures same { StandsIn slots.entry result }
     {
-        Value::made(slots, s, |x| if contains(r, x) { Some(x) } else { None })
+        Value::made(slots, s, |x| contains(r, x).then_some(x))
     }
 
     // The tuples of s that are not in r.
@@ -206,7 +202,7 @@ impl<'a> Value<'a> {
         ensures gathered { Gathered (Without (In s.now) (In r.now)) (length slots.old) result }
         ensures same { StandsIn slots.entry result }
     {
-        Value::made(slots, s, |x| if contains(r, x) { None } else { Some(x) })
+        Value::made(slots, s, |x| (!contains(r, x)).then_some(x))
     }
 
     // The tuples of s, which have arity p, the other way round.
@@ -226,7 +222,7 @@ impl<'a> Value<'a> {
     ) -> Option<Value<'a>>
         requires { F.IsAlwaysCallable make }
         ensures gathered { (m : Tuple → Tuple → Option Tuple) →
-            ((x : Tuple) → In s.now x → (y : Tuple) → In r.now y → (o : Option Tuple) → F.post make x y o → o ≡ m x y) →
+            MakesPairs (F.post make) s.now r.now m →
             Gathered (Paired m (In s.now) (In r.now)) (length slots.old) result }
         ensures same { StandsIn slots.entry result }
     {
@@ -260,6 +256,7 @@ impl<'a> Value<'a> {
     {
         let mut value = Value::new(slots);
         value.insert_all(s)?;
+        // An index, since the value grows while its tuples are gone over.
         let mut i = 0;
         while i < value.len() {
             let x = value.tuples()[i];
