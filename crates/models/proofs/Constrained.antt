@@ -17,12 +17,12 @@ use Rattle.calls.specs.Models.{first_false}
 use Rattle.calls.proofs.Lookups.{unmap, got, there_at, all_at}
 use Rattle.calls.proofs.Rows.{arity_of, term_below}
 use Rattle.calls.proofs.Satisfied.{satisfies_exact, FirstFalse, first_false_found}
-use Rattle.values.specs.declared.tuple.Tuple.{Tuple}
+use Rattle.records.specs.declared.tuple.Tuple.{Tuple}
 use Rattle.models.specs.Tuples.{places, Shows}
 use Rattle.models.specs.Rows.{fact_tuple, Ground, named_by}
 use Rattle.models.specs.Lawfulness.{answered}
 use Rattle.models.specs.Constraints.{form_of, Includes, FormSays, BySign, Satisfied, IsFirstFalse}
-use Rattle.models.specs.declared.kinds.Form.TheVariants.{Member, EqualNames, EqualTerms}
+use Rattle.records.specs.declared.kinds.Form.TheVariants.{Member, EqualNames, EqualTerms}
 use Rattle.models.proofs.Places.{flat_same, flat_names}
 use Rattle.models.proofs.Variables.{places_named, fact_flat}
 use Rattle.models.proofs.Shown.{shows_at}

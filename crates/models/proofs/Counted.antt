@@ -8,7 +8,7 @@ use Rattle.meaning.specs.Mixes.{Once, Exactly}
 use Rattle.calls.proofs.Once.{not_longer}
 use Rattle.values.specs.Sets.{In, Apart}
 use Rattle.values.specs.Gathers.{Denotes, Crowd}
-use Rattle.values.specs.declared.tuple.Tuple.{Tuple}
+use Rattle.records.specs.declared.tuple.Tuple.{Tuple}
 use Rattle.models.specs.Tuples.{places, Flat, Shows}
 use Rattle.models.proofs.Places.{flat_same}
 

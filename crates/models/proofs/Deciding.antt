@@ -1,34 +1,38 @@
--- One turn of the test whether a value includes another (`includes_more`, `includes_not`), and a constraint from
--- its form and its sign (`says_at`).
-use Rattle.std.proofs.Common.{◌≡◌, ℕ, ◌+◌, ◌-◌, ◌<◌, ◌≤◌, Bool, true, false, List, length, get_or, Decides, refl, subst, ⊎_elim, arith}
+-- The test whether a value includes another (`includes_decides`), and a constraint from its form and its sign
+-- (`sign_decides`).
+use Rattle.std.proofs.Common.{◌≡◌, Bool, true, false, List, [], ◌∷◌, Decides, refl, subst, inl, inr, ⊎_elim}
 use mathlib.Core.Bool.{beq}
-use Rattle.std.proofs.lemmas.Bool.{both_ways}
-use Rattle.records.specs.declared.rows.Fact.{Fact}
+use Rattle.std.specs.List.{list_all}
+use Rattle.std.proofs.lemmas.Bool.{both_ways, and_parts, and_from}
+use Rattle.records.specs.Tuples.{equal_names}
+use Rattle.records.specs.declared.tuple.Tuple.{Tuple}
 use Rattle.values.specs.Sets.{has, In}
-use Rattle.values.specs.Store.{value, same_tuple, no_tuple}
-use Rattle.values.specs.declared.tuple.Tuple.{Tuple}
-use Rattle.values.specs.declared.tuple.Span.{Span}
-use Rattle.values.proofs.Theory.{in_push, has_in, has_not}
-use Rattle.values.proofs.Tuples.{same_law}
-use Rattle.values.proofs.Segments.{value_none, value_more, in_value}
-use Rattle.models.specs.Rows.{span_of}
-use Rattle.models.specs.Constraints.{form_of, Includes, FormSays, BySign, Satisfied, IsStored}
-use Rattle.models.specs.declared.kinds.Form.{Form}
+use Rattle.values.proofs.Theory.{has_in, in_has}
+use Rattle.values.proofs.Inserting.{same_law}
+use Rattle.models.specs.Constraints.{Includes, BySign}
 
-module _ (xs : List Tuple) (a : ℕ) (v : List Tuple) where
-  pub includes_none : Includes (In (value xs a a)) (In v)
-  includes_none t m = absurd (subst (λ l. In l t) (value_none xs a) m)
+module _ (r : List Tuple) where
+  included : (s : List Tuple) → list_all (has equal_names r) s ≡ true → Includes (In s) (In r)
+  included [] e t m = absurd m
+  included (x ∷ s) e t m =
+      let p = and_parts (has equal_names r x) _ e in
+      ⊎_elim (λ q. subst (In r) q (has_in equal_names same_law r x p.0)) (λ i. included s p.1 t i) m
 
-  pub includes_more : (i : ℕ) → a ≤ i → i < length xs → Includes (In (value xs a i)) (In v) → has same_tuple v (get_or xs i no_tuple) ≡ true → Includes (In (value xs a (i + 1))) (In v)
-  includes_more i l h go e t m =
-      ⊎_elim (λ p. go t p) (λ p. subst (In v) p (has_in same_tuple same_law v (get_or xs i no_tuple) e))
-      (in_push (value xs a i) (get_or xs i no_tuple) t (subst (λ z. In z t) (value_more xs a i no_tuple l h) m))
+  contained : (s : List Tuple) → Includes (In s) (In r) → list_all (has equal_names r) s ≡ true
+  contained [] f = refl
+  contained (x ∷ s) f =
+      and_from (has equal_names r x) _ (in_has equal_names same_law r x (f x (inl refl))) (contained s (λ t i. f t (inr i)))
 
-  pub includes_not : (i b : ℕ) → a ≤ i → i < b → b ≤ length xs → has same_tuple v (get_or xs i no_tuple) ≡ false → Includes (In (value xs a b)) (In v) → ⊥
-  includes_not i b l h k e f =
-      let z : a + (i - a) ≡ i = omega arith in
-      let s : a + (i - a) < b = omega arith in
-      has_not same_tuple same_law v (get_or xs i no_tuple) e (f (get_or xs i no_tuple) (subst (λ n. In (value xs a b) (get_or xs n no_tuple)) z (in_value xs a b (i - a) no_tuple s k)))
+  pub includes_decides : (s : List Tuple) → Decides (list_all (has equal_names r) s) (Includes (In s) (In r))
+  includes_decides s = (included s, contained s)
+
+-- the second of two answers, once the first is that its part holds; and the first, if it is not
+module _ (b : Bool) (P Q : Type 0) (d : Decides b P) where
+  pub both_decide : (c : Bool) → b ≡ true → Decides c Q → Decides c (P × Q)
+  both_decide c h e = (λ p. (d.0 h, e.0 p), λ m. e.1 m.1)
+
+  pub first_decides : b ≡ false → Decides b (P × Q)
+  first_decides h = (λ p. absurd (both_ways b h p), λ m. d.1 m.0)
 
 -- an answer that is as the sign says
 pub sign_decides : (b s : Bool) (P : Type 0) → Decides b P → Decides (beq b s) (BySign s P)
@@ -36,11 +40,3 @@ sign_decides true true P d = (λ e. d.0 refl, λ p. refl)
 sign_decides false true P d = (λ e. absurd (both_ways false refl e), λ p. absurd (both_ways false refl (d.1 p)))
 sign_decides true false P d = (λ e. absurd (both_ways false refl e), λ n. absurd (n (d.0 refl)))
 sign_decides false false P d = (λ e p. both_ways false refl (d.1 p), λ n. refl)
-
--- what the code has in hand is what the constraint speaks of
-pub says_at : (rs : List ℕ) (xs : List Tuple) (ends : List ℕ) (k : ℕ) (f : Fact) (b : Bool) (m : Form) (s r : Span) → m ≡ form_of f.form → s ≡ span_of ends k f.term → r ≡ span_of ends k f.a
-    → Decides b (FormSays m rs f (In (value xs s.from s.to)) (In (value xs r.from r.to))) → Decides (beq b f.positive) (Satisfied rs (IsStored xs ends k) f)
-says_at rs xs ends k f b m s r em es er d =
-    let G : Form → Span → Span → Type 0 = λ m s r. Decides b (FormSays m rs f (In (value xs s.from s.to)) (In (value xs r.from r.to))) in
-    sign_decides b f.positive _
-    (subst (λ z. G (form_of f.form) (span_of ends k f.term) z) er (subst (λ z. G (form_of f.form) z r) es (subst (λ z. G z s r) em d)))

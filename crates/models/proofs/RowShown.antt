@@ -12,12 +12,12 @@ use Rattle.meaning.proofs.Lengths.{opened, shut}
 use Rattle.calls.specs.Reading.{Plain, op_of, four, read_row, read_sheet, write_op}
 use Rattle.calls.proofs.Lookups.{remap, there_at}
 use Rattle.calls.proofs.Rows.{arity_of, arity_low, full}
-use Rattle.values.specs.Store as store
-use Rattle.values.specs.declared.tuple.Tuple.{Tuple}
+use Rattle.records.specs.Tuples as tuple
+use Rattle.records.specs.declared.tuple.Tuple.{Tuple}
 use Rattle.models.specs.Tuples.{Shows}
 use Rattle.models.specs.Rows.{operation_of, RowHolds, Ground, named_by}
-use Rattle.models.specs.declared.kinds.Operation.{Operation}
-use Rattle.models.specs.declared.kinds.Operation.TheVariants.{
+use Rattle.records.specs.declared.kinds.Operation.{Operation}
+use Rattle.records.specs.declared.kinds.Operation.TheVariants.{
   Variable,
   Empty,
   Single,
@@ -95,7 +95,7 @@ module _ (P : Plain) (facts : List Fact) (n : ℕ) (rs : List ℕ) (ground : Gro
       complete = λ u m. absurd m;
     }
     node_shows Single row fits wr =
-        shows_single rs ground.zero_kept w (ap (λ (x : TermRow). store.four x.a x.b x.c x.d) wr)
+        shows_single rs ground.zero_kept w (ap (λ (x : TermRow). tuple.names x.a x.b x.c x.d) wr)
     node_shows Union row fits wr =
         shows_union w.arity (A w.a) (A w.b) _ _ (operand w.a w.arity fits.0) (operand w.b w.arity fits.1)
     node_shows Intersection row fits wr =

@@ -1,13 +1,13 @@
 -- What each operation makes of tuples shows what it makes of lists: from `shows_union` to `shows_closure`.
-use Rattle.std.proofs.Common.{◌≡◌, ℕ, ◌+◌, ◌<◌, ◌≤◌, true, false, ◌⊎◌, List, [], ◌∷◌, ◌++◌, reverse, sym, refl, ap, ◌∙◌, subst, inl, inr, ⊎_elim, arith}
+use Rattle.std.proofs.Common.{◌≡◌, ℕ, ◌+◌, ◌<◌, ◌≤◌, ◌⊎◌, List, [], ◌∷◌, ◌++◌, reverse, sym, refl, ap, ◌∙◌, subst, inl, inr, ⊎_elim, arith}
 use Rattle.std.proofs.lemmas.List.{reverse-reverse, same_from_push}
 use Rattle.meaning.specs.Meaning.{Chain}
 use Rattle.meaning.specs.Meaning.Chain.{one as link, more as longer}
-use Rattle.values.specs.Makes.{append, behead, place_at, reversed}
-use Rattle.values.specs.Gathers.{Either, Both, Without, Made, Paired, Reach, linked}
+use Rattle.records.specs.Tuples.{joined, rest_from, name_at}
+use Rattle.values.specs.Tuples.{reversed, turning, following, joining, linked}
+use Rattle.values.specs.Gathers.{Either, Both, Without, Made, Paired, Reach}
 use Rattle.values.specs.Gathers.Reach.{one, more}
-use Rattle.values.specs.declared.tuple.Tuple.{Tuple}
-use Rattle.values.specs.declared.tuple.Make.TheVariants.{Reversed}
+use Rattle.records.specs.declared.tuple.Tuple.{Tuple}
 use Rattle.models.specs.Tuples.{places, Flat, Shows}
 use Rattle.models.proofs.Places.{places-append, places_last, places_first, places_reversed}
 use Rattle.models.proofs.Places.{flat_same, flat_append, flat_behead, flat_reversed, joined_made, joined_makes}
@@ -61,30 +61,30 @@ module _ (p : ℕ) (S R : Tuple → Type 0) (V W : List ℕ → Type 0) (s : Sho
   }
 
 pub shows_transp : (p : ℕ) (S : Tuple → Type 0) (V : List ℕ → Type 0) → 1 ≤ p → p ≤ 4 → Shows p S V →
-    Shows p (Made (Reversed p) S) (λ u. V (reverse u))
+    Shows p (Made (turning p) S) (λ u. V (reverse u))
 shows_transp p S V l h s = record {
   flat = λ t m.
-      let e : reversed m.0 p ≡ t = cc m.2 in
+      let e : reversed p m.0 ≡ t = cc m.2 in
       subst (Flat p) e (flat_reversed p m.0 l h (s.flat m.0 m.1));
   sound = λ t m.
-      let e : reversed m.0 p ≡ t = cc m.2 in
+      let e : reversed p m.0 ≡ t = cc m.2 in
       subst V (sym (reverse-reverse (places p m.0)) ∙ ap reverse (sym (places_reversed p m.0 l h) ∙ ap (places p) e))
       (s.sound m.0 m.1);
   complete = λ u v.
       let f = s.complete (reverse u) v in
-      (reversed f.0 p, (f.0, f.1, refl), places_reversed p f.0 l h ∙ ap reverse f.2 ∙ reverse-reverse u);
+      (reversed p f.0, (f.0, f.1, refl), places_reversed p f.0 l h ∙ ap reverse f.2 ∙ reverse-reverse u);
 }
 
 module _ (p q : ℕ) (S R : Tuple → Type 0) (V W : List ℕ → Type 0) where
   pub shows_prod : p < 4 → p + q ≤ 4 → Shows p S V → Shows q R W →
-      Shows (p + q) (Paired false p S R)
+      Shows (p + q) (Paired (following p) S R)
       (λ u. (a : List ℕ) × (b : List ℕ) × (u ≡ a ++ b) × V a × W b)
   shows_prod l h s r = record {
     flat = λ t m.
-        let e : append m.0 p m.2.0 ≡ t = cc m.2.2 in
+        let e : joined p m.0 m.2.0 ≡ t = cc m.2.2 in
         subst (Flat (p + q)) e (flat_append p q m.0 m.2.0 l h (r.flat m.2.0 m.2.1));
     sound = λ t m.
-        let e : append m.0 p m.2.0 ≡ t = cc m.2.2 in (
+        let e : joined p m.0 m.2.0 ≡ t = cc m.2.2 in (
           places p m.0,
           places q m.2.0,
           ap (places (p + q)) (sym e) ∙ places-append p q m.0 m.2.0 l h,
@@ -94,43 +94,43 @@ module _ (p q : ℕ) (S R : Tuple → Type 0) (V W : List ℕ → Type 0) where
     complete = λ u m.
         let f = s.complete m.0 m.3 in
         let g = r.complete m.1 m.4 in (
-          append f.0 p g.0,
+          joined p f.0 g.0,
           (f.0, f.1, (g.0, g.1, refl)),
           places-append p q f.0 g.0 l h ∙ ap (λ v. v ++ places q g.0) f.2 ∙ ap (λ v. m.0 ++ v) g.2 ∙ sym m.2,
         );
   }
 
   pub shows_join : p < 4 → q < 4 → p + q ≤ 4 → Shows (p + 1) S V → Shows (q + 1) R W →
-      Shows (p + q) (Paired true (p + 1) S R)
+      Shows (p + q) (Paired (joining (p + 1)) S R)
       (λ u. (a : List ℕ) × (m : ℕ) × (b : List ℕ) × (u ≡ a ++ b) × V (a ++ (m ∷ [])) × W (m ∷ b))
   shows_join l k h s r = record {
     flat = λ t m.
         let e = joined_made m.0 m.2.0 t p m.2.2 in
         subst (Flat (p + q)) e.1
-        (flat_append p q m.0 (behead m.2.0) l h (flat_behead q m.2.0 k (r.flat m.2.0 m.2.1)));
+        (flat_append p q m.0 (rest_from 1 m.2.0) l h (flat_behead q m.2.0 k (r.flat m.2.0 m.2.1)));
     sound = λ t m.
         let x : Tuple = m.0 in
         let y : Tuple = m.2.0 in
         let e = joined_made x y t p m.2.2 in (
           places p x,
-          place_at x p,
-          places q (behead y),
-          ap (places (p + q)) (sym e.1) ∙ places-append p q x (behead y) l h,
+          name_at p x,
+          places q (rest_from 1 y),
+          ap (places (p + q)) (sym e.1) ∙ places-append p q x (rest_from 1 y) l h,
           subst V (places_last p x l) (s.sound x m.1),
-          subst W (places_first q y k ∙ ap (λ z. z ∷ places q (behead y)) (sym e.0)) (r.sound y m.2.1),
+          subst W (places_first q y k ∙ ap (λ z. z ∷ places q (rest_from 1 y)) (sym e.0)) (r.sound y m.2.1),
         );
     complete = λ u m.
         let f = s.complete (m.0 ++ (m.1 ∷ [])) m.4 in
         let g = r.complete (m.1 ∷ m.2) m.5 in
         let x : Tuple = f.0 in
         let y : Tuple = g.0 in
-        let d = same_from_push (places p x) m.0 (place_at x p) m.1 (sym (places_last p x l) ∙ f.2) in
+        let d = same_from_push (places p x) m.0 (name_at p x) m.1 (sym (places_last p x l) ∙ f.2) in
         let e = sym (places_first q y k) ∙ g.2 in
         let e0 : y.a ≡ m.1 = cc e in
-        let e1 : places q (behead y) ≡ m.2 = cc e in (
-          append x p (behead y),
+        let e1 : places q (rest_from 1 y) ≡ m.2 = cc e in (
+          joined p x (rest_from 1 y),
           (x, f.1, (y, g.1, joined_makes x y p (d.1 ∙ sym e0))),
-          places-append p q x (behead y) l h ∙ ap (λ v. v ++ places q (behead y)) d.0 ∙ ap (λ v. m.0 ++ v) e1 ∙ sym m.3,
+          places-append p q x (rest_from 1 y) l h ∙ ap (λ v. v ++ places q (rest_from 1 y)) d.0 ∙ ap (λ v. m.0 ++ v) e1 ∙ sym m.3,
         );
   }
 
@@ -157,7 +157,7 @@ module _ (S : Tuple → Type 0) (V : List ℕ → Type 0) (s : Shows 2 S V) wher
       let e = g.2 in
       let e0 : g.0.a ≡ y = cc e in
       let e1 : g.0.b ≡ z = cc e in
-      (append r.0 1 (behead g.0), more g.0 r.1 g.1 (joined_makes r.0 g.0 1 (r.3 ∙ sym e0)), r.2, e1)
+      (joined 1 r.0 (rest_from 1 g.0), more g.0 r.1 g.1 (joined_makes r.0 g.0 1 (r.3 ∙ sym e0)), r.2, e1)
 
   along : (x y z : ℕ) → (t : Tuple) × Reach linked S t × (t.a ≡ x) × (t.b ≡ y) →
       Chain (λ a b. V (a ∷ (b ∷ []))) y z → (t : Tuple) × Reach linked S t × (t.a ≡ x) × (t.b ≡ z)
@@ -176,7 +176,7 @@ module _ (S : Tuple → Type 0) (V : List ℕ → Type 0) (s : Shows 2 S V) wher
   flat_reach t (one m) = s.flat t m
   flat_reach t (more {x} y r m e) =
       let j = joined_made x y t 1 e in
-      subst (Flat 2) j.1 (flat_append 1 1 x (behead y) (omega arith) (omega arith) (flat_behead 1 y (omega arith) (s.flat y m)))
+      subst (Flat 2) j.1 (flat_append 1 1 x (rest_from 1 y) (omega arith) (omega arith) (flat_behead 1 y (omega arith) (s.flat y m)))
 
   pub shows_closure : Shows 2 (Reach linked S)
       (λ u. (x : ℕ) × (y : ℕ) × (u ≡ x ∷ (y ∷ [])) × Chain (λ a b. V (a ∷ (b ∷ []))) x y)

@@ -13,8 +13,8 @@ use Rattle.meaning.specs.Terms as subject
 use Rattle.meaning.specs.Model.{rep, on_term, tuples, row_is_variable, held}
 use Rattle.calls.specs.Reading.{Plain, tuple_of, read_form, read_fact, write_form, read_sheet, FactFits}
 use Rattle.values.specs.Sets.{In}
-use Rattle.values.specs.Store.{four}
-use Rattle.values.specs.declared.tuple.Tuple.{Tuple}
+use Rattle.records.specs.Tuples.{names}
+use Rattle.records.specs.declared.tuple.Tuple.{Tuple}
 use Rattle.models.specs.Tuples.{places, Flat, Shows, by_names}
 use Rattle.models.specs.Rows.{fact_tuple, row_tuple, offered}
 use Rattle.models.proofs.Places.{flat_names}
@@ -80,9 +80,9 @@ module _ (rows : List TermRow) (t : ℕ) where
 
 -- a fact of form 1 that fits has zero in unused bytes
 pub fact_flat : (P : Plain) (n : ℕ) (f : Fact) → FactFits P n f → eqb f.form 1 ≡ true →
-    Flat (row_at P.rows f.term).arity (four f.a f.b f.c f.d)
+    Flat (row_at P.rows f.term).arity (names f.a f.b f.c f.d)
 fact_flat P n f fits e =
-    ap (λ (x : Fact). four x.a x.b x.c x.d)
+    ap (λ (x : Fact). names x.a x.b x.c x.d)
     (subst (λ (b : Bool). write_form f.positive
     (cond b (member (tuple_of P.rows f) f.term) (cond (eqb f.form 2) (equal f.a f.b) (same f.term f.a))) ≡ f)
     e fits.written)
@@ -145,7 +145,7 @@ module _ (P : Plain) (facts : List Fact) (n : ℕ) (rs : List ℕ) (z : rep rs 0
 
 -- a singleton whose names are in the row's operands, zero in unused bytes
 pub shows_single : (rs : List ℕ) → rep rs 0 ≡ 0 → (w : TermRow) →
-    Flat w.arity (four w.a w.b w.c w.d) →
+    Flat w.arity (names w.a w.b w.c w.d) →
     Shows w.arity (λ x. row_tuple rs w ≡ x)
     (λ u. u ≡ map (rep rs) (take w.arity (w.a ∷ w.b ∷ w.c ∷ w.d ∷ [])))
 shows_single rs z w f = record {

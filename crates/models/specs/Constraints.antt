@@ -1,14 +1,13 @@
 -- When constraints hold over tuples of representatives, and the first that does not.
-use Rattle.std.specs.Prelude.{◌≡◌, ℕ, ◌<◌, Bool, true, false, cond, List, length, Some, None, Option, ◌==◌, slice_index_or}
+use Rattle.std.specs.Prelude.{◌≡◌, ℕ, ◌<◌, Bool, true, false, cond, List, Some, None, Option, ◌==◌, slice_index_or}
 use Rattle.records.specs.declared.rows.Fact.{Fact}
 use Rattle.rules.specs.Facts.{no_fact}
 use Rattle.meaning.specs.Model.{rep}
 use Rattle.values.specs.Sets.{In}
-use Rattle.values.specs.Store.{value_at, Below}
-use Rattle.values.specs.declared.tuple.Tuple.{Tuple}
-use Rattle.models.specs.Rows.{fact_tuple, span_of}
-use Rattle.models.specs.declared.kinds.Form.{Form}
-use Rattle.models.specs.declared.kinds.Form.TheVariants.{Member, EqualNames, EqualTerms}
+use Rattle.records.specs.declared.tuple.Tuple.{Tuple}
+use Rattle.models.specs.Rows.{fact_tuple, value_of}
+use Rattle.records.specs.declared.kinds.Form.{Form}
+use Rattle.records.specs.declared.kinds.Form.TheVariants.{Member, EqualNames, EqualTerms}
 
 -- The form with this number; equality of terms for all but 1 and 2.
 abbrev pub form_of : ℕ → Form
@@ -33,13 +32,9 @@ BySign false P = P → ⊥
 abbrev pub Satisfied : List ℕ → (ℕ → Tuple → Type 0) → Fact → Type 0
 Satisfied rs M f = BySign f.positive (FormSays (form_of f.form) rs f (M f.term) (M f.a))
 
--- What each of k terms holds, by where it lies in the store.
-abbrev pub IsStored : List Tuple → List ℕ → ℕ → ℕ → Tuple → Type 0
-IsStored xs ends k j t = In (value_at xs (span_of ends k j)) t
-
--- All of them lie in the store.
-abbrev pub Spans : List Tuple → List ℕ → ℕ → Type 0
-Spans xs ends k = (j : ℕ) → Below (span_of ends k j) (length xs)
+-- What each term holds, by the values.
+abbrev pub IsHeld : List (List Tuple) → ℕ → Tuple → Type 0
+IsHeld vs j t = In (value_of vs j) t
 
 -- The first of the first m constraints that is not satisfied, or all of them are.
 abbrev pub IsFirstFalse : List ℕ → (ℕ → Tuple → Type 0) → List Fact → ℕ → Option ℕ → Type 0

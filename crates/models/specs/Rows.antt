@@ -1,6 +1,6 @@
--- What each term row holds, as tuples of representatives, from what its operands hold; and where the values
--- of the terms lie in the store.
-use Rattle.std.specs.Prelude.{◌≡◌, ℕ, ◌+◌, ◌<◌, ◌≤◌, Bool, true, false, cond, ◌&&◌, List, map, length, Some, None, Option, ◌==◌, nat_lt, slice_index, slice_index_or}
+-- What each term row holds, as tuples of representatives, from what its operands hold; and what the values of the
+-- terms are.
+use Rattle.std.specs.Prelude.{◌≡◌, ℕ, ◌<◌, ◌≤◌, cond, ◌&&◌, List, [], map, length, take, Some, None, Option, ◌==◌, slice_index_or, sum_by}
 use Rattle.records.specs.declared.rows.Fact.{Fact}
 use Rattle.records.specs.declared.rows.TermRow.{TermRow}
 use Rattle.rules.specs.Looked.{row_at}
@@ -10,14 +10,12 @@ use Rattle.calls.specs.Reading.{Plain, read_fact, read_sheet}
 use Rattle.calls.specs.Bridge.{Fair}
 use Rattle.calls.specs.Models.{tuples_below, tuples_in}
 use Rattle.values.specs.Sets.{In, Apart}
-use Rattle.values.specs.Store.{value}
-use Rattle.values.specs.Gathers.{Either, Both, Without, Made, Paired, Reach, linked}
-use Rattle.values.specs.declared.tuple.Tuple.{Tuple}
-use Rattle.values.specs.declared.tuple.Span.{Span}
-use Rattle.values.specs.declared.tuple.Make.TheVariants.{Reversed}
+use Rattle.values.specs.Tuples.{turning, following, joining, linked}
+use Rattle.values.specs.Gathers.{Either, Both, Without, Made, Paired, Reach}
+use Rattle.records.specs.declared.tuple.Tuple.{Tuple}
 use Rattle.models.specs.Tuples.{Shows, by_names}
-use Rattle.models.specs.declared.kinds.Operation.{Operation}
-use Rattle.models.specs.declared.kinds.Operation.TheVariants.{
+use Rattle.records.specs.declared.kinds.Operation.{Operation}
+use Rattle.records.specs.declared.kinds.Operation.TheVariants.{
   Variable,
   Empty,
   Single,
@@ -65,25 +63,18 @@ RowHolds Single rs facts w k p S R t = row_tuple rs w ≡ t
 RowHolds Union rs facts w k p S R t = Either S R t
 RowHolds Intersection rs facts w k p S R t = Both S R t
 RowHolds Difference rs facts w k p S R t = Without S R t
-RowHolds Transpose rs facts w k p S R t = Made (Reversed w.arity) S t
-RowHolds Product rs facts w k p S R t = Paired false p S R t
-RowHolds Join rs facts w k p S R t = Paired true p S R t
+RowHolds Transpose rs facts w k p S R t = Made (turning w.arity) S t
+RowHolds Product rs facts w k p S R t = Paired (following p) S R t
+RowHolds Join rs facts w k p S R t = Paired (joining p) S R t
 RowHolds Closure rs facts w k p S R t = Reach linked S t
 
--- Where term j lies, seen from term k: nowhere if it is not before k.
-abbrev pub span_of : List ℕ → ℕ → ℕ → Span
-span_of ends k j =
-    cond (nat_lt j k) (record { from = slice_index ends j; to = slice_index ends (j + 1) }) (record { from = 0; to = 0 })
+-- What term j holds, where these are the terms' values in order: nothing if there is none.
+abbrev pub value_of : List (List Tuple) → ℕ → List Tuple
+value_of vs j = slice_index_or vs j []
 
--- The value of term j: it lies from end j to end j + 1.
-abbrev pub term_value : List Tuple → List ℕ → ℕ → List Tuple
-term_value xs ends j = value xs (slice_index ends j) (slice_index ends (j + 1))
-
--- The values of the first k terms lie one after another, from place 0 on.
-pub record Laid (k : ℕ) (xs : List Tuple) (ends : List ℕ) : Type 0 where
-  pub first : slice_index_or ends 0 0 ≡ 0
-  pub rising : (i j : ℕ) → i ≤ j → j ≤ k → slice_index ends i ≤ slice_index ends j
-  pub room : slice_index_or ends k 0 ≤ length xs
+-- How many tuples the first k values have together.
+abbrev pub total : List (List Tuple) → ℕ → ℕ
+total vs k = sum_by length (take k vs)
 
 -- What the meaning of values rests on: a fair sheet and branch, and representatives that keep name 0, as all
 -- lawful ones do, so that unused bytes stay zero.
@@ -96,13 +87,11 @@ abbrev pub named_by : Plain → List Fact → List ℕ → Interp ℕ
 named_by P facts rs = Named (read_sheet P) rs (map (read_fact P.rows) facts)
 
 -- The first k values are those of the first k terms: each tuple once, and so many as these have together.
-pub record Upto (P : Plain) (facts : List Fact) (rs : List ℕ) (k : ℕ) (xs : List Tuple) (ends : List ℕ) :
-    Type 0 where
-  pub once : (j : ℕ) → j < k → Apart (term_value xs ends j)
+pub record Upto (P : Plain) (facts : List Fact) (rs : List ℕ) (k : ℕ) (vs : List (List Tuple)) : Type 0 where
+  pub once : (j : ℕ) → j < k → Apart (value_of vs j)
   pub each : (j : ℕ) → j < k →
-      Shows (row_at P.rows j).arity (In (term_value xs ends j))
-      (Value (read_sheet P).rows (named_by P facts rs) j)
-  pub counted : tuples_below (read_sheet P) (named_by P facts rs) k ≡ slice_index ends k
+      Shows (row_at P.rows j).arity (In (value_of vs j)) (Value (read_sheet P).rows (named_by P facts rs) j)
+  pub counted : tuples_below (read_sheet P) (named_by P facts rs) k ≡ total vs k
 
 -- The plain sheet with these rows.
 abbrev pub with_rows : List ℕ → ℕ → List Fact → List TermRow → Plain
@@ -115,15 +104,13 @@ Fairly rs facts rows Q =
     (codes : List ℕ) (free : ℕ) (constraints : List Fact) (n : ℕ) →
     Ground (with_rows codes free constraints rows) facts n rs → Q (with_rows codes free constraints rows)
 
--- The values of the first k rows lie in the store; and where all is fair, they are what the terms mean.
-pub record Valued (rs : List ℕ) (facts : List Fact) (rows : List TermRow) (k : ℕ) (xs : List Tuple)
-    (ends : List ℕ) : Type 0 where
-  pub laid : Laid k xs ends
-  pub values : Fairly rs facts rows (λ P. Upto P facts rs k xs ends)
+-- Where all is fair, the first k values are what the terms mean.
+abbrev pub Valued : List ℕ → List Fact → List TermRow → ℕ → List (List Tuple) → Type 0
+Valued rs facts rows k vs = Fairly rs facts rows (λ P. Upto P facts rs k vs)
 
--- What evaluation answers: all values are in the store, or, where all is fair, they have more tuples than it
--- has places.
-abbrev pub Evaluated : List ℕ → List Fact → List TermRow → List Tuple → List ℕ → Bool → Type 0
-Evaluated rs facts rows xs ends true = Valued rs facts rows (length rows) xs ends
-Evaluated rs facts rows xs ends false =
-    Fairly rs facts rows (λ P. length xs < tuples_in (read_sheet P) (named_by P facts rs))
+-- What evaluation in so many slots answers: these are all values, and there was room for them; or, where all is fair,
+-- they have more tuples than there are slots.
+abbrev pub Evaluated : List ℕ → List Fact → List TermRow → ℕ → List (List Tuple) → Option (Unit {0}) → Type 0
+Evaluated rs facts rows room vs (Some _) = Valued rs facts rows (length rows) vs × (total vs (length rows) ≤ room)
+Evaluated rs facts rows room vs None =
+    Fairly rs facts rows (λ P. room < tuples_in (read_sheet P) (named_by P facts rs))

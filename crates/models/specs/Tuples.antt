@@ -1,8 +1,8 @@
 -- Tuples in four places as lists of names, and the relation of lists that a set of tuples shows.
 use Rattle.std.specs.Prelude.{◌≡◌, ℕ, List, [], ◌∷◌, take, slice_index}
 use Rattle.meaning.specs.Model.{rep}
-use Rattle.values.specs.Store.{four}
-use Rattle.values.specs.declared.tuple.Tuple.{Tuple}
+use Rattle.records.specs.Tuples.{names}
+use Rattle.records.specs.declared.tuple.Tuple.{Tuple}
 
 -- The first p places of a tuple.
 abbrev pub places : ℕ → Tuple → List ℕ
@@ -10,7 +10,7 @@ places p t = take p (t.a ∷ t.b ∷ t.c ∷ t.d ∷ [])
 
 -- The tuple with these places, the others zero.
 abbrev pub tuple_from : List ℕ → Tuple
-tuple_from u = four (slice_index u 0) (slice_index u 1) (slice_index u 2) (slice_index u 3)
+tuple_from u = names (slice_index u 0) (slice_index u 1) (slice_index u 2) (slice_index u 3)
 
 -- All places past the first p are zero.
 abbrev pub Flat : ℕ → Tuple → Type 0
@@ -24,4 +24,4 @@ pub record Shows (p : ℕ) (S : Tuple → Type 0) (V : List ℕ → Type 0) : Ty
 
 -- The tuple of the representatives of four names.
 abbrev pub by_names : List ℕ → ℕ → ℕ → ℕ → ℕ → Tuple
-by_names rs x y z v = four (rep rs x) (rep rs y) (rep rs z) (rep rs v)
+by_names rs x y z v = names (rep rs x) (rep rs y) (rep rs z) (rep rs v)

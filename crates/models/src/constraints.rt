@@ -1,93 +1,69 @@
-// Whether constraints hold over the values in the store, and the first that does not.
-ghost use Rattle.std.specs.Prelude.{◌≡◌, ◌<◌, ◌≤◌, length, Decides};
-ghost use Rattle.values.specs.Sets.{In};
-ghost use Rattle.values.specs.Store.{value_at, Below};
-ghost use Rattle.models.specs.Constraints.{form_of, Includes, FormSays, Satisfied};
-ghost use Rattle.models.specs.Constraints.{IsStored, Spans, IsFirstFalse};
+// Whether constraints hold over the values of the terms, and the first that does not.
+ghost use Rattle.std.specs.Prelude.{◌≡◌, ◌<◌, ◌≤◌, length, map, Decides};
+ghost use Rattle.std.specs.List.{list_all};
+ghost use Rattle.records.specs.Tuples.{equal_names};
+ghost use Rattle.values.specs.Sets.{has};
+ghost use Rattle.models.specs.Rows.{value_of};
+ghost use Rattle.models.specs.Constraints.{form_of, Includes, FormSays, Satisfied, IsHeld, IsFirstFalse};
 
-use super::evaluation::{span, tuple_of};
-use super::kinds::Form;
+use super::branch::Branch;
+use super::evaluation::Values;
 use super::lawful::representative;
+use records::kinds::Form;
 use records::rows::Fact;
-use values::tuple::{Span, Tuple};
-
-// The form with this number; equality of terms for all but 1 and 2.
-fn form(number: u8) -> Form
-    ensures { result ≡ form_of number }
-{
-    match number {
-        1 => Form::Member,
-        2 => Form::EqualNames,
-        _ => Form::EqualTerms,
-    }
-}
+use records::tuple::Tuple;
+use values::value::contains;
 
 // Whether each tuple of s is in r.
-fn within(store: &[Tuple], s: Span, r: Span) -> bool
-    requires left { Below s (length store.now) }
-    requires right { Below r (length store.now) }
-    ensures { Decides result
-        (Includes (In (value_at store.now s)) (In (value_at store.now r))) }
+fn within(s: &[Tuple], r: &[Tuple]) -> bool
+    ensures { result ≡ list_all (has equal_names r.now) s.now }
 {
-    for i in s.from..s.to {
-        if !values::contains(store, r, store[i]) {
-            return false;
+    s.iter().all(|t| contains(r, *t))
+}
+
+impl Values<'_> {
+    // Whether what a constraint says holds, its sign apart.
+    fn says(self, f: Fact) -> bool
+        ensures { Decides result (FormSays (form_of f.form) self.entry.representatives.now f
+            (IsHeld (map (λ v. v.now) self.entry.terms.now) f.term)
+            (IsHeld (map (λ v. v.now) self.entry.terms.now) f.a)) }
+    {
+        let s = self.of(f.term);
+        match Form::try_from(f.form).unwrap_or(Form::EqualTerms) {
+            Form::Member => contains(s, self.represented(Tuple::from(f))),
+            Form::EqualNames => representative(self.representatives, f.a)
+                == representative(self.representatives, f.b),
+            Form::EqualTerms => {
+                let r = self.of(f.a);
+                within(s, r) && within(r, s)
+            }
         }
     }
-    true
-}
 
-// Whether the form of a constraint holds, its sign apart: s is where its term lies, r where the term numbered
-// by its first name byte does.
-fn says(store: &[Tuple], representatives: &[u8], m: Form, f: Fact, s: Span, r: Span) -> bool
-    requires left { Below s (length store.now) }
-    requires right { Below r (length store.now) }
-    ensures { Decides result
-        (FormSays m representatives.now f (In (value_at store.now s))
-        (In (value_at store.now r))) }
-{
-    match m {
-        Form::Member => values::contains(store, s, tuple_of(representatives, f.a, f.b, f.c, f.d)),
-        Form::EqualNames => representative(representatives, f.a)
-            == representative(representatives, f.b),
-        Form::EqualTerms => within(store, s, r) && within(store, r, s),
+    // Whether a constraint holds.
+    fn holds(self, f: Fact) -> bool
+        ensures { Decides result (Satisfied self.entry.representatives.now
+            (IsHeld (map (λ v. v.now) self.entry.terms.now)) f) }
+    {
+        self.says(f) == f.positive
     }
-}
 
-// Whether a constraint holds; k terms lie in the store.
-fn holds(store: &[Tuple], ends: &[usize], representatives: &[u8], k: usize, f: Fact) -> bool
-    requires long { k < length ends.now }
-    requires spans { Spans store.now ends.now k }
-    ensures { Decides result
-        (Satisfied representatives.now (IsStored store.now ends.now k) f) }
-{
-    let s = span(ends, k, f.term);
-    let r = span(ends, k, f.a);
-    let m = form(f.form);
-    let yes = says(store, representatives, m, f, s, r);
-    yes == f.positive
-}
-
-// The first of the first so many facts, which are the constraints, that does not hold.
-pub(crate) fn first_false(
-    store: &[Tuple],
-    ends: &[usize],
-    representatives: &[u8],
-    k: usize,
-    facts: &[Fact],
-    constraints: usize,
-) -> Option<u8>
-    requires long { k < length ends.now }
-    requires spans { Spans store.now ends.now k }
-    requires there { constraints ≤ length facts.now }
-    requires few { constraints ≤ 256 }
-    ensures { IsFirstFalse representatives.now
-        (IsStored store.now ends.now k) facts.now constraints result }
-{
-    for i in 0..constraints {
-        if !holds(store, ends, representatives, k, facts[i]) {
-            return Some(i as u8);
+    // The first constraint of a branch that does not hold.
+    pub(crate) fn first_false(self, branch: &Branch) -> Option<u8>
+        ensures { IsFirstFalse self.entry.representatives.now
+            (IsHeld (map (λ v. v.now) self.entry.terms.now)) branch.now.facts.now
+            branch.now.constraints result }
+    {
+        let Branch {
+            facts,
+            constraints,
+            ..
+        } = *branch;
+        for i in 0..constraints {
+            if !self.holds(facts[i]) {
+                return Some(i as u8);
+            }
         }
+        None
     }
-    None
 }

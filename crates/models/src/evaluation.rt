@@ -1,171 +1,90 @@
-// The values of all terms: each row is evaluated from the values before it, and all lie one after another in
-// the lent store.
-ghost use Rattle.std.specs.Prelude.{◌≡◌, ◌<◌, ◌≤◌, [], length, Some};
-ghost use Rattle.std.specs.List.{flat_map};
-ghost use Rattle.records.specs.declared.rows.Fact.{Fact as FactRow};
+// The values of all terms: each row is evaluated from the values before it, in the slots behind them.
+ghost use Rattle.std.specs.Prelude.{◌≡◌, ◌<◌, ◌≤◌, length, map};
 ghost use Rattle.rules.specs.Looked.{row_at};
-ghost use Rattle.values.specs.Sets.{puts, In};
-ghost use Rattle.values.specs.Store.{same_tuple, value_at, Filled, Below};
-ghost use Rattle.values.specs.Makes.{listed};
-ghost use Rattle.values.specs.Gathers.{Gathered};
+ghost use Rattle.values.specs.Sets.{In};
+ghost use Rattle.values.specs.Held.{Gathered, StandsIn};
 ghost use Rattle.models.specs.Tuples.{by_names};
-ghost use Rattle.models.specs.Rows.{operation_of, row_tuple, offered, RowHolds, span_of, Evaluated};
+ghost use Rattle.models.specs.Rows.{operation_of, offered, RowHolds, value_of, Evaluated};
 
-use super::kinds::Operation;
+use super::branch::Branch;
 use super::lawful::representative;
+use records::kinds::{Form, Operation};
 use records::rows::{Fact, TermRow};
-use values::tuple::{Span, Tuple};
+use records::tuple::Tuple;
+use values::value::Value;
 
-// The operation with this number; closure for all past 8.
-fn operation(number: u8) -> Operation
-    ensures { result ≡ operation_of number }
-{
-    match number {
-        0 => Operation::Variable,
-        1 => Operation::Empty,
-        2 => Operation::Single,
-        3 => Operation::Union,
-        4 => Operation::Intersection,
-        5 => Operation::Difference,
-        6 => Operation::Transpose,
-        7 => Operation::Product,
-        8 => Operation::Join,
-        _ => Operation::Closure,
-    }
+// What terms are evaluated by: the representatives of the names, and the values of the terms before.
+#[derive(Clone, Copy)]
+pub(crate) struct Values<'a> {
+    pub representatives: &'a [u8],
+    pub terms: &'a [&'a [Tuple]],
 }
 
-// The tuple of the representatives of four names.
-pub(crate) fn tuple_of(representatives: &[u8], a: u8, b: u8, c: u8, d: u8) -> Tuple
-    ensures { result ≡ by_names representatives.now a b c d }
-{
-    Tuple {
-        a: representative(representatives, a),
-        b: representative(representatives, b),
-        c: representative(representatives, c),
-        d: representative(representatives, d),
-    }
-}
-
-// The tuple that a fact puts into variable k, if it puts one in.
-fn tuple_for(representatives: &[u8], k: usize, f: Fact) -> Option<Tuple>
-    ensures { result ≡ offered representatives.now k f }
-{
-    if f.form == 1 && f.positive && f.term as usize == k {
-        Some(tuple_of(representatives, f.a, f.b, f.c, f.d))
-    } else {
-        None
-    }
-}
-
-// Fills a new value with the tuples that the facts put into variable k, in their order.
-fn fill_variable(
-    store: &mut [Tuple],
-    start: usize,
-    representatives: &[u8],
-    facts: &[Fact],
-    k: usize,
-) -> Option<usize>
-    requires room { start ≤ length store.old }
-    ensures { Filled store.old start
-        (puts same_tuple []
-        (flat_map (λ f. listed (offered representatives.now k f)) facts.now))
-        store.new result }
-{
-    let mut n = start;
-    for i in 0..facts.len() {
-        let o = tuple_for(representatives, k, facts[i]);
-        let Some(more) = values::offer(store, start, n, o) else {
-            return None;
-        };
-        n = more;
-    }
-    Some(n)
-}
-
-// The value of variable k: the tuples of the positive facts on it, each once.
-fn variable(
-    store: &mut [Tuple],
-    start: usize,
-    representatives: &[u8],
-    facts: &[Fact],
-    k: usize,
-) -> Option<usize>
-    requires room { start ≤ length store.old }
-    ensures { Gathered store.old start
-        (λ t. (f : FactRow) × In facts.now f
-        × (offered representatives.now k f ≡ Some t))
-        store.new result }
-{
-    fill_variable(store, start, representatives, facts, k)
-}
-
-// The value of a singleton.
-fn single(store: &mut [Tuple], start: usize, representatives: &[u8], row: TermRow) -> Option<usize>
-    requires room { start ≤ length store.old }
-    ensures { Gathered store.old start
-        (λ t. row_tuple representatives.now row ≡ t) store.new result }
-{
-    let t = tuple_of(representatives, row.a, row.b, row.c, row.d);
-    values::offer(store, start, start, Some(t))
-}
-
-// The empty value.
-fn empty(store: &mut [Tuple], start: usize) -> Option<usize>
-    requires room { start ≤ length store.old }
-    ensures { Gathered store.old start (λ _. ⊥) store.new result }
-{
-    values::offer(store, start, start, None)
-}
-
-// The value of row k, which is put into the store from `start` on: p is the arity of its first operand, s and
-// r are where its operands lie.
-fn evaluate_row(
-    store: &mut [Tuple],
-    start: usize,
-    representatives: &[u8],
-    facts: &[Fact],
-    op: Operation,
-    row: TermRow,
-    k: usize,
-    p: u8,
-    s: Span,
-    r: Span,
-) -> Option<usize>
-    requires room { start ≤ length store.old }
-    requires left { Below s start }
-    requires right { Below r start }
-    ensures { Gathered store.old start
-        (RowHolds op representatives.now facts.now row k p
-        (In (value_at store.old s)) (In (value_at store.old r)))
-        store.new result }
-{
-    match op {
-        Operation::Variable => variable(store, start, representatives, facts, k),
-        Operation::Empty => empty(store, start),
-        Operation::Single => single(store, start, representatives, row),
-        Operation::Union => values::union(store, start, s, r),
-        Operation::Intersection => values::intersection(store, start, s, r),
-        Operation::Difference => values::difference(store, start, s, r),
-        Operation::Transpose => values::transpose(store, start, s, row.arity),
-        Operation::Product => values::product(store, start, s, p, r),
-        Operation::Join => values::join(store, start, s, p, r),
-        Operation::Closure => values::closure(store, start, s),
-    }
-}
-
-// Where term j lies, seen from term k: nowhere if it is not before k.
-pub(crate) fn span(ends: &[usize], k: usize, j: u8) -> Span
-    requires { k < length ends.now }
-    ensures { result ≡ span_of ends.now k j }
-{
-    let j = j as usize;
-    if j < k {
-        Span {
-            from: ends[j],
-            to: ends[j + 1],
+impl<'a> Values<'a> {
+    // The value of term j: empty if there is none.
+    pub(crate) fn of(self, j: u8) -> &'a [Tuple]
+        ensures { result.now ≡ value_of (map (λ v. v.now) self.entry.terms.now) j }
+    {
+        match self.terms.get(j as usize) {
+            Some(value) => value,
+            None => &[],
         }
-    } else {
-        Span { from: 0, to: 0 }
+    }
+
+    // The tuple of the representatives of these names.
+    pub(crate) fn represented(self, names: Tuple) -> Tuple
+        ensures { result ≡ by_names self.entry.representatives.now names.a names.b names.c names.d }
+    {
+        let Tuple { a, b, c, d } = names;
+        Tuple::new(
+            representative(self.representatives, a),
+            representative(self.representatives, b),
+            representative(self.representatives, c),
+            representative(self.representatives, d),
+        )
+    }
+
+    // The tuple that a fact puts into variable k, if it puts one in.
+    fn offered(self, k: usize, f: Fact) -> Option<Tuple>
+        ensures { result ≡ offered self.entry.representatives.now k f }
+    {
+        if f.affirms(Form::Member) && f.term as usize == k {
+            Some(self.represented(Tuple::from(f)))
+        } else {
+            None
+        }
+    }
+
+    // The value of the row behind these values, in the slots.
+    fn next<'s>(self, slots: &'s mut [Tuple], branch: &Branch, row: TermRow) -> Option<Value<'s>>
+        ensures gathered { Gathered
+            (RowHolds (operation_of row.op) self.entry.representatives.now branch.now.facts.now
+            row (length self.entry.terms.now) (row_at branch.now.terms.now row.a).arity
+            (In (value_of (map (λ v. v.now) self.entry.terms.now) row.a))
+            (In (value_of (map (λ v. v.now) self.entry.terms.now) row.b)))
+            (length slots.old) result }
+        ensures same { StandsIn slots.entry result }
+    {
+        let p = arity(branch.terms, row.a);
+        let s = self.of(row.a);
+        let r = self.of(row.b);
+        let k = self.terms.len();
+        match Operation::try_from(row.op).unwrap_or(Operation::Closure) {
+            Operation::Variable => Value::made(slots, branch.facts, |f| self.offered(k, f)),
+            Operation::Empty => Some(Value::new(slots)),
+            Operation::Single => {
+                let mut value = Value::new(slots);
+                value.offer(Some(self.represented(Tuple::from(row))))?;
+                Some(value)
+            }
+            Operation::Union => Value::union(slots, s, r),
+            Operation::Intersection => Value::intersection(slots, s, r),
+            Operation::Difference => Value::difference(slots, s, r),
+            Operation::Transpose => Value::transpose(slots, s, row.arity),
+            Operation::Product => Value::product(slots, s, p, r),
+            Operation::Join => Value::join(slots, s, p, r),
+            Operation::Closure => Value::closure(slots, s),
+        }
     }
 }
 
@@ -173,39 +92,31 @@ pub(crate) fn span(ends: &[usize], k: usize, j: u8) -> Span
 fn arity(terms: &[TermRow], j: u8) -> u8
     ensures { result ≡ (row_at terms.now j).arity }
 {
-    if (j as usize) < terms.len() {
-        terms[j as usize].arity
-    } else {
-        0
-    }
+    terms.get(j as usize).map_or(0, |row| row.arity)
 }
 
-// Puts the values of all rows into the store, one after another, and where each ends into `ends`; whether
-// there was room for all.
-pub(crate) fn evaluate(
-    store: &mut [Tuple],
-    ends: &mut [usize],
+// Evaluates all rows in the store, one behind the other, and puts their values into `values`; nothing where there
+// is no room for all.
+pub(crate) fn evaluate<'a>(
+    store: &'a mut [Tuple],
+    values: &mut [&'a [Tuple]],
     representatives: &[u8],
-    facts: &[Fact],
-    terms: &[TermRow],
-) -> bool
-    requires long { length terms.now < length ends.old }
-    ensures { Evaluated representatives.now facts.now terms.now
-        store.new ends.new result }
+    branch: &Branch,
+) -> Option<()>
+    requires long { length branch.now.terms.now ≤ length values.old }
+    ensures { Evaluated representatives.now branch.now.facts.now branch.now.terms.now
+        (length store.old) (map (λ v. v.now) values.new) result }
 {
-    ends[0] = 0;
-    for k in 0..terms.len() {
-        let row = terms[k];
-        let start = ends[k];
-        let p = arity(terms, row.a);
-        let s = span(ends, k, row.a);
-        let r = span(ends, k, row.b);
-        let op = operation(row.op);
-        let Some(end) = evaluate_row(store, start, representatives, facts, op, row, k, p, s, r)
-        else {
-            return false;
+    let mut room = store;
+    for (k, &row) in branch.terms.iter().enumerate() {
+        let before = Values {
+            representatives,
+            terms: &values[..k],
         };
-        ends[k + 1] = end;
+        let value = before.next(room, branch, row)?;
+        let (tuples, rest) = value.split();
+        values[k] = tuples;
+        room = rest;
     }
-    true
+    Some(())
 }

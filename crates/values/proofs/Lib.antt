@@ -1,6 +1,5 @@
--- Lists as sets, segments of the store, tuples, the worklist, and what each operation gathers.
+-- Lists as sets, putting tuples in, the worklist, and what each operation gathers.
 pub mod Theory
-pub mod Segments
-pub mod Tuples
+pub mod Inserting
 pub mod Closing
 pub mod Relations

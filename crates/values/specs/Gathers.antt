@@ -1,11 +1,26 @@
--- What the operations gather: new values that hold exactly the tuples of a relation, each once.
-use Rattle.std.specs.Prelude.{◌≡◌, ℕ, ◌-◌, ◌<◌, Bool, ◌⊎◌, List, length, take, Some, None, Option}
+-- What values hold: exactly the elements of a relation, each once; and the relation of each operation.
+use Rattle.std.specs.Prelude.{◌≡◌, ℕ, ◌<◌, ◌⊎◌, List, [], ◌∷◌, length, Some, None, Option}
 use Rattle.values.specs.Sets.{In, Apart}
-use Rattle.values.specs.Store.{value, Lies}
-use Rattle.values.specs.Makes.{makes, pairing}
-use Rattle.values.specs.declared.tuple.Tuple.{Tuple}
-use Rattle.values.specs.declared.tuple.Make.{Make}
-use Rattle.values.specs.declared.tuple.Make.TheVariants.{Joined}
+use Rattle.records.specs.declared.tuple.Tuple.{Tuple}
+
+-- An element, if there is one, as a list.
+abbrev pub listed : {X : Type 0} → Option X → List X
+listed None = []
+listed (Some t) = t ∷ []
+
+-- The value v is now w; or there was no room for w in so many slots.
+abbrev pub Filled : {X A : Type 0} → ℕ → List X → List X → Option A → Type 0
+Filled room w v (Some _) = v ≡ w
+Filled room w v None = room < length w
+
+-- What is answered at each element of the list, by `post`, is what m makes of it;
+abbrev pub Makes : {T : Type 0} → (T → Option Tuple → Type 0) → List T → (T → Option Tuple) → Type 0
+Makes {T} post list m = (x : T) → In list x → (o : Option Tuple) → post x o → o ≡ m x
+
+-- and at each pair of elements of two lists.
+abbrev pub MakesPairs : (Tuple → Tuple → Option Tuple → Type 0) → List Tuple → List Tuple → (Tuple → Tuple → Option Tuple) → Type 0
+MakesPairs post s r m =
+    (x : Tuple) → In s x → (y : Tuple) → In r y → (o : Option Tuple) → post x y o → o ≡ m x y
 
 -- The list has each element with R once, and nothing else.
 pub record Denotes {X : Type 0} (R : X → Type 0) (v : List X) : Type 0 where
@@ -20,17 +35,6 @@ pub record Crowd {X : Type 0} (R : X → Type 0) (k : ℕ) : Type 0 where
   pub sound : (x : X) → In some x → R x
   pub many : k < length some
 
--- The store ys is as xs was below i.
-pub record Kept {X : Type 0} (xs : List X) (i : ℕ) (ys : List X) : Type 0 where
-  pub long : length ys ≡ length xs
-  pub kept : take i ys ≡ take i xs
-
--- From i to the end that is answered lies a list of R; or more elements have R than there are places left.
--- Below i nothing has changed.
-abbrev pub Gathered : {X : Type 0} → List X → ℕ → (X → Type 0) → List X → Option ℕ → Type 0
-Gathered xs i R ys (Some m) = Lies xs i (value ys i m) ys m × Denotes R (value ys i m)
-Gathered xs i R ys None = Kept xs i ys × Crowd R (length xs - i)
-
 -- What each operation holds, where S and R are what its operands hold: union,
 abbrev pub Either : (Tuple → Type 0) → (Tuple → Type 0) → Tuple → Type 0
 Either S R t = S t ⊎ R t
@@ -43,19 +47,15 @@ Both S R t = S t × R t
 abbrev pub Without : (Tuple → Type 0) → (Tuple → Type 0) → Tuple → Type 0
 Without S R t = S t × (R t → ⊥)
 
--- what the tuples of S make, as in a transpose,
-abbrev pub Made : Make → (Tuple → Type 0) → Tuple → Type 0
-Made m S t = (y : Tuple) × S y × (makes m y ≡ Some t)
+-- what the elements with S make, as in a transpose,
+abbrev pub Made : {Y : Type 0} → (Y → Option Tuple) → (Y → Type 0) → Tuple → Type 0
+Made {Y} m S t = (y : Y) × S y × (m y ≡ Some t)
 
--- what pairs of tuples make, one of S, of arity p, and one of R: join, or else product,
-abbrev pub Paired : Bool → ℕ → (Tuple → Type 0) → (Tuple → Type 0) → Tuple → Type 0
-Paired join p S R t = (x : Tuple) × S x × Made (pairing join x p) R t
+-- what pairs of tuples make, one of S and one of R, as in a product and a join,
+abbrev pub Paired : (Tuple → Tuple → Option Tuple) → (Tuple → Type 0) → (Tuple → Type 0) → Tuple → Type 0
+Paired m S R t = (x : Tuple) × S x × Made (m x) R t
 
 -- and what is reached from the elements with P by steps over elements with P, as in a closure.
 pub data Reach {X : Type 0} (step : X → X → Option X) (P : X → Type 0) : X → Type 0 where
   one : {t : X} → P t → Reach step P t
   more : {x : X} (y : X) {t : X} → Reach step P x → P y → step x y ≡ Some t → Reach step P t
-
--- The step of a closure: the join of two pairs, where they fit.
-abbrev pub linked : Tuple → Tuple → Option Tuple
-linked x y = makes (Joined x 2) y

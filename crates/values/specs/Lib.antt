@@ -1,5 +1,5 @@
--- Values of terms in a store: lists without repetition, where they lie, and what each operation puts in.
+-- Values of terms: lists without repetition, what tuples make, what each operation holds, and values in slots.
 pub mod Sets
-pub mod Store
-pub mod Makes
+pub mod Tuples
 pub mod Gathers
+pub mod Held

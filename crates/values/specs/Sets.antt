@@ -1,10 +1,10 @@
 -- Lists as sets: membership by a test and as a relation, and putting in what is not there yet.
-use Rattle.std.specs.Prelude.{◌≡◌, Bool, false, cond, ◌||◌, ◌⊎◌, List, [], ◌∷◌, ◌++◌}
+use Rattle.std.specs.Prelude.{◌≡◌, Bool, cond, ◌⊎◌, List, [], ◌∷◌, ◌++◌}
+use Rattle.std.specs.List.{list_any}
 
 -- Whether t is in the list, e being the test of equality.
 abbrev pub has : {X : Type 0} → (X → X → Bool) → List X → X → Bool
-has e [] t = false
-has e (x ∷ xs) t = e x t || has e xs t
+has e xs t = list_any (λ x. e x t) xs
 
 -- The list with t put at its end, unless it is there.
 abbrev pub put : {X : Type 0} → (X → X → Bool) → List X → X → List X
