@@ -4,7 +4,7 @@ use Rattle.std.proofs.Common.{◌≡◌, ℕ, zero, suc, ◌<◌, Bool, true, fa
 use Rattle.std.specs.List.{slice_get}
 use lib.ListN.{get_elem?}
 use Rattle.calls.specs.Models.{each_below, first_bad}
-use Rattle.calls.proofs.Below.{Least, each_exact, all_good, first_bad_found}
+use Rattle.calls.proofs.Below.{Least, each_true, true_each, all_good, first_bad_found}
 use Rattle.models.specs.Lawfulness.{answered}
 
 pub answered_there : (l : List ℕ) (i : ℕ) → answered (slice_get l i) ≡ get_elem? l i
@@ -20,8 +20,7 @@ one_flag false false h = refl
 module _ (f : ℕ → Bool) (n : ℕ) where
   pub each_told : (b : Bool) → (b ≡ true) ↔ ((k : ℕ) → k < n → f k ≡ true) → b ≡ each_below f n
   each_told b h =
-      let e = each_exact f n in
-      one_flag b (each_below f n) (λ t. e.1 (h.0 t), λ t. h.1 (e.0 t))
+      one_flag b (each_below f n) (λ t. true_each f n (h.0 t), λ t. h.1 (λ k l. each_true f n k t l))
 
   pub first_told : (o : _) → MatchOption o ((k : ℕ) → k < n → f k ≡ true) (Least f n) → first_bad f n ≡ answered o
   first_told None h = all_good f n h

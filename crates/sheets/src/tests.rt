@@ -8,7 +8,7 @@ use std::process::Abort;
 use std::test::Fail;
 use stores::lent::Stores;
 use stores::trail::entry;
-use values::tuple::Tuple;
+use records::tuple::Tuple;
 
 // A refusal's number and detail; zeros where there is none.
 fn shown(answer: Result<(), Refusal>) -> (u8, u64) {

@@ -2,7 +2,7 @@
 use Rattle.std.specs.Prelude.{◌≡◌, List, length}
 use Rattle.calls.specs.Stores.{Held}
 use Rattle.stores.specs.declared.lent.Stores.{Stores}
-use Rattle.values.specs.declared.tuple.Tuple.{Tuple}
+use Rattle.records.specs.declared.tuple.Tuple.{Tuple}
 
 -- all places of each store; of the tuple store how many there are
 abbrev pub held : Stores → Held

@@ -1,6 +1,6 @@
 use records::rows::{Fact, TermRow};
 use rules::outcome::Fork;
-use values::tuple::Tuple;
+use records::tuple::Tuple;
 
 // The six stores, lent anew to every call.
 #[derive(Drop)]

@@ -12,10 +12,11 @@ ghost use Rattle.trials.specs.Steps.{weighed_at, answered};
 
 use crate::progress::Progress;
 use labels::kind::Kind;
+use models::branch::{Branch, Model};
 use models::check_model;
 use records::refusal::Refusal;
+use records::tuple::Tuple;
 use stores::lent::Stores;
-use values::tuple::Tuple;
 
 impl Progress {
     // A model checked against the fronts of the stores, with the tuple store lent apart.
@@ -37,17 +38,18 @@ impl Progress {
             count representatives.now result }
     {
         let constraints = self.facts.min(u16::from(self.sizes.constraints));
-        check_model(
-            kind,
-            self.codes(stores.labels),
-            self.rows(stores.terms),
-            self.branch(stores.facts),
-            usize::from(constraints),
-            self.names,
-            tuples,
+        let branch = Branch {
+            labels: self.codes(stores.labels),
+            terms: self.rows(stores.terms),
+            facts: self.branch(stores.facts),
+            constraints: usize::from(constraints),
+            names: self.names,
+        };
+        let model = Model {
             count,
             representatives,
-        )
+        };
+        check_model(kind, &branch, tuples, &model)
     }
 
     // The answer to a model, on stores that are large enough; of these only the tuples are written.
