@@ -16,16 +16,12 @@ pub fn read_input(rt: &HostRuntime, most: u64) -> io::Result<Vec<u8>> {
 // The file `renames` of the folder that the program runs in; nothing where there is none.
 pub fn read_renames_file(rt: &HostRuntime) -> io::Result<Vec<u8>> {
     let mut bytes: Vec<u8> = Vec::new(rt.alloc());
-    let file = match File::open(rt, "renames") {
-        Ok(file) => file,
-        Err(e) => {
-            return if e.kind() == ErrorKind::NotFound {
-                Ok(bytes)
-            } else {
-                Err(e)
-            };
+    match File::open(rt, "renames") {
+        Ok(file) => {
+            file.take(MOST_RENAMES).read_to_end(&mut bytes)?;
         }
-    };
-    file.take(MOST_RENAMES).read_to_end(&mut bytes)?;
+        Err(e) if e.kind() == ErrorKind::NotFound => {}
+        Err(e) => return Err(e),
+    }
     Ok(bytes)
 }

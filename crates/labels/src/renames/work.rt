@@ -33,10 +33,7 @@ impl<K> Renames<K> {
     fn target(&self, code: u32) -> u32
         ensures { result ≡ target (held_pairs self.now) code }
     {
-        match self.find_old(code) {
-            Some(pair) => pair.new,
-            None => code,
-        }
+        self.find_old(code).map_or(code, |pair| pair.new)
     }
 
     // Whether a pair has this old code.
