@@ -1,5 +1,5 @@
 -- One value more of an evaluation: `valued_more` where it had room, `over` where it had none.
-use Rattle.std.proofs.Common.{◌≡◌, ℕ, zero, suc, ◌+◌, ◌<◌, ◌≤◌, ◌≢◌, List, [], ◌∷◌, map, length, take, set, sym, refl, ap, ◌∙◌, subst, ⊎_elim, arith, sum_by}
+use Rattle.std.proofs.Common.{◌≡◌, ℕ, zero, suc, ◌+◌, ◌<◌, ◌≤◌, ◌≢◌, List, [], ◌∷◌, map, length, take, set, sym, ap, ◌∙◌, subst, ⊎_elim, arith, sum_by}
 use lib.ListN.{length-map}
 use Rattle.std.proofs.lemmas.List.{get_or-set_same, get_or-set_other, get_or-take, take_more_set}
 use Rattle.std.proofs.lemmas.List.Sums.{sum_by-append}
@@ -116,13 +116,6 @@ module _ (P : Plain) (facts : List Fact) (n : ℕ) (rs : List ℕ) (ground : Gro
 -- ── the loop ───────────────────────────────────────────────────────────────
 
 module _ (rs : List ℕ) (facts : List Fact) (rows : List TermRow) where
-  pub valued_none : (vs : List (List Tuple)) → Valued rs facts rows 0 vs
-  valued_none vs codes free constraints n g = record {
-    once = λ j l. absurd (omega arith);
-    each = λ j l. absurd (omega arith);
-    counted = refl;
-  }
-
   pub valued_more : (k : ℕ) → k < length rows → (vs : List (List Tuple)) → Valued rs facts rows k vs → (w : List Tuple) →
       k < length vs → Denotes (IsHeldAt rs facts rows k vs) w → Valued rs facts rows (k + 1) (set vs k w)
   valued_more k l vs valued w there d codes free constraints n g =

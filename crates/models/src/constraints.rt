@@ -4,7 +4,7 @@ ghost use Rattle.std.specs.List.{list_all};
 ghost use Rattle.records.specs.Tuples.{equal_names};
 ghost use Rattle.values.specs.Sets.{has};
 ghost use Rattle.models.specs.Rows.{value_of};
-ghost use Rattle.models.specs.Constraints.{form_of, Includes, FormSays, Satisfied, IsHeld, IsFirstFalse};
+ghost use Rattle.models.specs.Constraints.{FormSays, Satisfied, IsHeld, IsFirstFalse};
 
 use super::branch::Branch;
 use super::evaluation::Values;
@@ -22,14 +22,14 @@ fn within(s: &[Tuple], r: &[Tuple]) -> bool
 }
 
 impl Values<'_> {
-    // Whether what a constraint says holds, its sign apart.
-    fn says(self, f: Fact) -> bool
-        ensures { Decides result (FormSays (form_of f.form) self.entry.representatives.now f
+    // Whether what a constraint of this form says holds, its sign apart.
+    fn says(self, form: Form, f: Fact) -> bool
+        ensures { Decides result (FormSays form self.entry.representatives.now f
             (IsHeld (map (λ v. v.now) self.entry.terms.now) f.term)
             (IsHeld (map (λ v. v.now) self.entry.terms.now) f.a)) }
     {
         let s = self.of(f.term);
-        match Form::try_from(f.form).unwrap_or(Form::EqualTerms) {
+        match form {
             Form::Member => contains(s, self.represented(Tuple::from(f))),
             Form::EqualNames => representative(self.representatives, f.a)
                 == representative(self.representatives, f.b),
@@ -45,7 +45,8 @@ impl Values<'_> {
         ensures { Decides result (Satisfied self.entry.representatives.now
             (IsHeld (map (λ v. v.now) self.entry.terms.now)) f) }
     {
-        self.says(f) == f.positive
+        let form = Form::try_from(f.form).unwrap_or(Form::EqualTerms);
+        self.says(form, f) == f.positive
     }
 
     // The first constraint of a branch that does not hold.

@@ -55,10 +55,16 @@ impl<'a> Values<'a> {
         }
     }
 
-    // The value of the row behind these values, in the slots.
-    fn next<'s>(self, slots: &'s mut [Tuple], branch: &Branch, row: TermRow) -> Option<Value<'s>>
+    // The value of the row behind these values, by its operation, in the slots.
+    fn value_by<'s>(
+        self,
+        operation: Operation,
+        slots: &'s mut [Tuple],
+        branch: &Branch,
+        row: TermRow,
+    ) -> Option<Value<'s>>
         ensures gathered { Gathered
-            (RowHolds (operation_of row.op) self.entry.representatives.now branch.now.facts.now
+            (RowHolds operation self.entry.representatives.now branch.now.facts.now
             row (length self.entry.terms.now) (row_at branch.now.terms.now row.a).arity
             (In (value_of (map (λ v. v.now) self.entry.terms.now) row.a))
             (In (value_of (map (λ v. v.now) self.entry.terms.now) row.b)))
@@ -69,7 +75,7 @@ impl<'a> Values<'a> {
         let s = self.of(row.a);
         let r = self.of(row.b);
         let k = self.terms.len();
-        match Operation::try_from(row.op).unwrap_or(Operation::Closure) {
+        match operation {
             Operation::Variable => Value::made(slots, branch.facts, |f| self.offered(k, f)),
             Operation::Empty => Some(Value::new(slots)),
             Operation::Single => {
@@ -85,6 +91,20 @@ impl<'a> Values<'a> {
             Operation::Join => Value::join(slots, s, p, r),
             Operation::Closure => Value::closure(slots, s),
         }
+    }
+
+    // The value of the row behind these values, in the slots.
+    fn next<'s>(self, slots: &'s mut [Tuple], branch: &Branch, row: TermRow) -> Option<Value<'s>>
+        ensures gathered { Gathered
+            (RowHolds (operation_of row.op) self.entry.representatives.now branch.now.facts.now
+            row (length self.entry.terms.now) (row_at branch.now.terms.now row.a).arity
+            (In (value_of (map (λ v. v.now) self.entry.terms.now) row.a))
+            (In (value_of (map (λ v. v.now) self.entry.terms.now) row.b)))
+            (length slots.old) result }
+        ensures same { StandsIn slots.entry result }
+    {
+        let operation = Operation::try_from(row.op).unwrap_or(Operation::Closure);
+        self.value_by(operation, slots, branch, row)
     }
 }
 

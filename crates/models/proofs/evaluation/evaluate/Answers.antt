@@ -5,14 +5,8 @@ use Rattle.records.specs.declared.tuple.Tuple.{Tuple}
 use Rattle.values.specs.Gathers.{Denotes, Crowd}
 use Rattle.values.specs.Held.{held}
 use Rattle.models.specs.Rows.{Valued, total, with_rows}
-use Rattle.models.proofs.Laying.{IsHeldAt, at_hand, valued_none, valued_more, over, total_more}
+use Rattle.models.proofs.Laying.{IsHeldAt, at_hand, valued_more, over, total_more}
 use Rattle.models.proofs.evaluation.evaluate.Goals as goal
-
-pub loop-k-init : goal.loop-k-init
-loop-k-init c = record {
-  valued = valued_none c.args.representatives.now c.args.branch.now.facts.now c.args.branch.now.terms.now (map (λ v. v.now) c.args.values.now);
-  room = omega arith;
-}
 
 pub returns-in_err-value : goal.returns-in_err-value
 returns-in_err-value c = rw c.from_residual.ensures (λ codes free constraints n ground.

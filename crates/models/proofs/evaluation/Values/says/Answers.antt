@@ -1,56 +1,39 @@
 use Rattle.std.proofs.Common.{◌≡◌, List, map, Decides, sym, ap, ◌∙◌, subst}
-use Rattle.std.specs.Result.{result_unwrap_or}
 use Rattle.records.specs.Tuples.{equal_names}
 use Rattle.records.specs.declared.tuple.Tuple.{Tuple}
-use Rattle.records.specs.declared.kinds.Form.TheVariants.{Member, EqualTerms}
 use Rattle.values.specs.Sets.{has, In}
 use Rattle.values.proofs.Theory.{has_in, in_has}
 use Rattle.values.proofs.Inserting.{same_law}
 use Rattle.models.specs.Tuples.{by_names}
 use Rattle.models.specs.Rows.{fact_tuple, value_of}
-use Rattle.models.specs.Constraints.{form_of, Includes, FormSays, IsHeld}
-use Rattle.models.proofs.Numbers.{form_read}
+use Rattle.models.specs.Constraints.{Includes}
 use Rattle.models.proofs.Deciding.{includes_decides, both_decide, first_decides}
 use Rattle.models.proofs.evaluation.Values.says.Goals as goal
 
 pub returns-in-Member : goal.returns-in-Member
 returns-in-Member c =
     let f = c.args.f in
-    let rs = c.args.self.representatives.now in
     let vs : List (List Tuple) = map (λ v. v.now) c.args.self.terms.now in
     let v = value_of vs f.term in
     let t = c.represented.result in
-    let is : Member ≡ form_of f.form = c.in-Member.ensures ∙ ap (λ r. result_unwrap_or r EqualTerms) c.try_from.ensures ∙ form_read f.form in
-    let same : t ≡ fact_tuple rs f = c.represented.ensures ∙ ap (λ (u : Tuple). by_names rs u.a u.b u.c u.d) c.from.ensures in
+    let same : t ≡ fact_tuple c.args.self.representatives.now f = c.represented.ensures ∙ ap (λ (u : Tuple). by_names c.args.self.representatives.now u.a u.b u.c u.d) c.from.ensures in
     let there : c.contains.result ≡ has equal_names v t = c.contains.ensures ∙ ap (λ l. has equal_names l t) c.of-s.ensures in
-    subst (λ m. Decides c.contains.result (FormSays m rs f (IsHeld vs f.term) (IsHeld vs f.a))) is (
+    rw c.in-Member.is (
       λ e. subst (In v) same (has_in equal_names same_law v t (sym there ∙ e)),
       λ m. there ∙ in_has equal_names same_law v t (subst (In v) (sym same) m),
     )
 
 pub returns-then-within : goal.returns-then-within
 returns-then-within c =
-    let f = c.args.f in
-    let vs : List (List Tuple) = map (λ v. v.now) c.args.self.terms.now in
     let s = c.of-s.result.now in
     let r = c.of-r.result.now in
-    let is : EqualTerms ≡ form_of f.form = c.in-EqualTerms.ensures ∙ ap (λ r. result_unwrap_or r EqualTerms) c.try_from.ensures ∙ form_read f.form in
     let one = subst (λ b. Decides b (Includes (In s) (In r))) (sym c.within.ensures) (includes_decides r s) in
     let other = subst (λ b. Decides b (Includes (In r) (In s))) (sym c.within-then-within.ensures) (includes_decides s r) in
-    subst (λ m. Decides c.within-then-within.result (FormSays m c.args.self.representatives.now f (IsHeld vs f.term) (IsHeld vs f.a))) is
-    (subst (λ l. Decides c.within-then-within.result (Includes (In l) (In (value_of vs f.a)) × Includes (In (value_of vs f.a)) (In l))) c.of-s.ensures
-    (subst (λ l. Decides c.within-then-within.result (Includes (In s) (In l) × Includes (In l) (In s))) c.of-r.ensures
-    (both_decide c.within.result _ _ one c.within-then-within.result c.if-within.true other)))
+    rw (c.in-EqualTerms.is, ← c.of-s.ensures, ← c.of-r.ensures) (both_decide c.within.result _ _ one c.within-then-within.result c.if-within.true other)
 
 pub returns-else-within : goal.returns-else-within
 returns-else-within c =
-    let f = c.args.f in
-    let vs : List (List Tuple) = map (λ v. v.now) c.args.self.terms.now in
     let s = c.of-s.result.now in
     let r = c.of-r.result.now in
-    let is : EqualTerms ≡ form_of f.form = c.in-EqualTerms.ensures ∙ ap (λ r. result_unwrap_or r EqualTerms) c.try_from.ensures ∙ form_read f.form in
     let one = subst (λ b. Decides b (Includes (In s) (In r))) (sym c.within.ensures) (includes_decides r s) in
-    subst (λ m. Decides c.within.result (FormSays m c.args.self.representatives.now f (IsHeld vs f.term) (IsHeld vs f.a))) is
-    (subst (λ l. Decides c.within.result (Includes (In l) (In (value_of vs f.a)) × Includes (In (value_of vs f.a)) (In l))) c.of-s.ensures
-    (subst (λ l. Decides c.within.result (Includes (In s) (In l) × Includes (In l) (In s))) c.of-r.ensures
-    (first_decides c.within.result _ _ one c.if-within.false)))
+    rw (c.in-EqualTerms.is, ← c.of-s.ensures, ← c.of-r.ensures) (first_decides c.within.result _ _ one c.if-within.false)

@@ -10,12 +10,6 @@ use Rattle.values.proofs.Inserting.{no_tuple, same_law, turn, overrun}
 use Rattle.values.proofs.Relations.{denotes, crowded, made, paired_from, paired_to}
 use Rattle.values.proofs.value.Value.pairs.Goals as goal
 
-pub loop-x-init : goal.loop-x-init
-loop-x-init g c = record {
-  same = (refl, refl);
-  left = λ m h. ap (λ v. puts equal_names v (flat_map (λ x. made (m x) c.args.r.now) c.args.s.now)) c.new-value.ensures.held;
-}
-
 pub returns-in_err-insert_made-clause-gathered : goal.returns-in_err-insert_made-clause-gathered
 returns-in_err-insert_made-clause-gathered g c m h =
     let s = c.args.s.now in
