@@ -81,9 +81,7 @@ module _
   with_room : Names → Facts → (2 ≤ alternatives_of y.rule → t.forks < 64) → HasRoom
   with_room names facts forks =
       has_room (plain_of t h) (branch_facts t h) t.names (forks_of t h) y.rule y.cited names
-      (subst (λ (k : ℕ). AllByRecursion (λ (z : AltRow). k + length (alt_facts z) ≤ 1024) rows)
-      (sym (facts_long t h w)) facts)
-      (λ l. subst (λ (k : ℕ). k < 64) (sym (forks_long t h w)) (forks l))
+      (rw (facts_long t h w) facts) (λ l. rw (forks_long t h w) (forks l))
 
   -- ── granted ──────────────────────────────────────────────────────────────
 
@@ -173,7 +171,7 @@ module _
       (λ has.
       both_ways _
       ((room_told.1 y.rule y.cited t.names t.facts w.few_facts).1
-      (subst (λ (k : ℕ). AllByRecursion (λ (z : AltRow). k + length (alt_facts z) ≤ 1024) rows) (facts_long t h w)
+      (rw (facts_long t h w) at
       (room_facts (plain_of t h) (branch_facts t h) t.names (forks_of t h) y.rule y.cited has)))
       e)
   at_facts false e names =

@@ -101,10 +101,7 @@ module _
           good = w.good;
           live = record { fair = (live t h w un).fair; stacked = (live t h w un).stacked };
         },
-        subst
-            (λ (z : List ℕ). Grants K (trying (read_trial t h)) (subject.step z)
-            (trying (read_trial (opened t h rs).trial (opened t h rs).stores)))
-            (sym (read_model bs n rs e))
+        rw (read_model bs n rs e)
             (subst
             (λ (z : subject.Trial). Grants K (trying (read_trial t h)) (subject.step (77 ∷ 68 ∷ n ∷ rs)) (trying z))
             (cc (runs K t h bs w un, take_at rs (drop (length rs) h.representatives) t.names at))

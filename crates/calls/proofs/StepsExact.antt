@@ -12,10 +12,9 @@ use Rattle.records.specs.Verdicts.{reached_by}
 use Rattle.records.specs.Reading.{Move, rule, model, other, byte, step_of, step_in}
 use Rattle.rules.specs.declared.outcome.Outcome.{Outcome}
 use Rattle.rules.specs.declared.outcome.Outcome.TheVariants as outcome
-use Rattle.meaning.specs.Calculus.{Alt, Branch, Fork, running, Applies}
+use Rattle.meaning.specs.Calculus.{Alt, running}
 use Rattle.meaning.specs.Mixes.{undecided, Decided, Room, trying, Grants, rule_step, verdict_there}
 use Rattle.meaning.specs.Mixes as subject
-use Rattle.calls.specs.Reading.{read_sheet}
 use Rattle.calls.specs.Bridge.{AppliesTo}
 use Rattle.calls.specs.Stores.{Held}
 use Rattle.calls.specs.Sheets.{Counts}
@@ -66,14 +65,8 @@ module _ (K : ℕ → Option ℕ) (t : Counts) (h : Held) (bs : List ℕ) (w : W
       let at_branch : c.branch ≡ branch_of t h = cc (runs, c.state) in
       let at_forks : c.forks ≡ open_forks t h = cc (runs, c.state) in (
         c.alts,
-        subst (λ (z : Step). AppliesTo K (plain_of t h) (branch_facts t h) t.names z c.alts) (sym same)
-            (subst
-            (λ (z : Branch).
-            Applies K (read_sheet (plain_of t h)) z c.r (c.ph * 256 + c.pl) (c.qh * 256 + c.ql) c.t c.w
-            c.alts)
-            at_branch c.applies),
-        subst (λ (z : Branch). Room z (open_forks t h) c.alts) at_branch
-            (subst (λ (z : List Fork). Room c.branch z c.alts) at_forks c.room),
+        rw (same, ← at_branch) c.applies,
+        rw (← at_branch, ← at_forks) c.room,
       )
 
   -- granted, or refused, as the step is right to come to
