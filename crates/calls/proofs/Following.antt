@@ -15,7 +15,7 @@ use Rattle.rules.specs.Looked.{planned}
 use Rattle.meaning.specs.Calculus.{Alt, Fork, State, running, closed, apply}
 use Rattle.meaning.specs.Mixes.{Room}
 use Rattle.meaning.specs.Mixes as subject
-use Rattle.calls.specs.Reading.{Plain, Good}
+use Rattle.calls.specs.Reading.{Good}
 use Rattle.calls.specs.Bridge.{read_branch, plan_alts, Fair, AppliesTo}
 use Rattle.calls.specs.Stores.{Held, with_facts, with_forks}
 use Rattle.calls.specs.Sheets.{Counts}
@@ -91,13 +91,11 @@ module _ (t : Counts) (h : Held) (w : Whole t h) (un : t.verdict ≡ verdict.Und
       Follows t h (counted t t.verdict m n k) (with_facts (with_forks h ks) xs) x
   lands_follow m n k xs ks x F G lx lk ec eF eG few l =
       let same : plain_of t h ≡ plain_of (counted t t.verdict m n k) (with_facts (with_forks h ks) xs) = cc in
-      let fair =
-      subst (λ (z : Plain). Fair z (take m xs) n) same
-      (subst (λ (z : List FactRow). Fair (plain_of t h) z n) (sym eF) l.fair) in
-      let stacked =
-      subst (λ (z : Plain). Stacked z (take m xs) t.constraints m (take k ks)) same
-      (subst (λ (z : List ForkRow). Stacked (plain_of t h) (take m xs) t.constraints m z) (sym eG)
-      (subst (λ (z : List FactRow). Stacked (plain_of t h) z t.constraints m G) (sym eF) l.stacked)) in
+      let fair : Fair (plain_of (counted t t.verdict m n k) (with_facts (with_forks h ks) xs)) (take m xs) n =
+      rw (← same, eF) l.fair in
+      let stacked :
+      Stacked (plain_of (counted t t.verdict m n k) (with_facts (with_forks h ks) xs)) (take m xs) t.constraints m (take k ks) =
+      rw (← same, eF, eG) l.stacked in
       let state : state_of (counted t t.verdict m n k) (with_facts (with_forks h ks) xs) ≡ x =
       (λ i. running (read_branch (sym same i) (eF i) n) (read_forks (sym same i) (eF i) (eG i) [])) ∙ l.reads in (
         record {
@@ -161,10 +159,8 @@ module _ (t : Counts) (h : Held) (w : Whole t h) (un : t.verdict ≡ verdict.Und
         Right K t h x (Err e)
     refused e never = λ alts a has.
         never
-        (subst (λ (z : List Alt). Room (branch_of t h) (open_forks t h) z)
-        (bridged.2 K (plain_of t h) (branch_facts t h) t.names (live t h w un).fair x alts
-        (plan_alts (plain_of t h) t.names y) a applies)
-        has)
+        (rw (bridged.2 K (plain_of t h) (branch_facts t h) t.names (live t h w un).fair x alts
+        (plan_alts (plain_of t h) t.names y) a applies) at has)
 
     pub granted :
         (o : Outcome) → Room (branch_of t h) (open_forks t h) (plan_alts (plain_of t h) t.names y) →

@@ -98,16 +98,8 @@ module _ (P : Plain) where
           cites_below = h.cites_below;
           few_names = h.few_names;
           left = h.left;
-          names_fit =
-              subst
-              (λ (z : Maybe FactRow). AllByRecursion (λ (a : AltRow). f.names + a.fresh ≤ 64)
-              (alt_rows f.rule (cited_again P.rows (or_none z) f.t) f.names))
-              ep h.names_fit;
-          facts_fit =
-              subst
-              (λ (z : Maybe FactRow). AllByRecursion (λ (a : AltRow). f.facts + length (alt_facts a) ≤ 1024)
-              (alt_rows f.rule (cited_again P.rows (or_none z) f.t) f.names))
-              ep h.facts_fit;
+          names_fit = rw ep at h.names_fit;
+          facts_fit = rw ep at h.facts_fit;
           fair =
               subst
               (λ (z : List FactRow). AllByRecursion (λ (a : AltRow). Fair P (z ++ alt_facts a) (f.names + a.fresh))

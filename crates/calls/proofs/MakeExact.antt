@@ -2,7 +2,7 @@
 use Rattle.std.proofs.Common.{◌≡◌, ℕ, ◌+◌, Bool, true, false, cond, eqb, leb, List, Some, None, Ok, Err, Option, sym, refl, subst, arith, eq-eqb, eqb-true, le-leb, leb-true}
 use Rattle.std.proofs.lemmas.Bool.{and_from, and_parts}
 use borrow.Author.Tests.{both_ways}
-use Rattle.records.specs.declared.refusal.Refusal.TheVariants.{StoresShort, WrongLetter, OverLimit}
+use Rattle.records.specs.declared.refusal.Refusal.TheVariants.{WrongLetter, OverLimit}
 use Rattle.records.specs.declared.rows.Header.{Header as HeaderRow}
 use Rattle.records.specs.Reading.{header_in}
 use Rattle.meaning.specs.Mixes.{Header, Made}
@@ -87,5 +87,4 @@ module _ (letter : ℕ) (h : Held) (bs : List ℕ) (b : Enough h) where
 
 pub make_exact : MakeIsExact
 make_exact letter h bs b =
-    subst (λ (z : Bool). MakeExact letter h bs (cond z (make_headed letter (header_in bs)) (Err StoresShort)))
-    (sym (enough_holds h b)) (by_header letter h bs b (header_in bs) refl (header_told bs))
+    rw (enough_holds h b) (by_header letter h bs b (header_in bs) refl (header_told bs))

@@ -114,11 +114,7 @@ module _
       let same : c.reps ≡ rs = cc (e, model_is c) in
       let at_branch : c.branch ≡ branch_of t h = cc (runs K t h bs w un, c.state) in (
         ap length (sym same) ∙ c.counted ∙ cc (e, model_is c),
-        subst
-            (λ (z : List ℕ). Lawful K (read_sheet (plain_of t h)) t.names z ×
-            Few (read_sheet (plain_of t h)) z (branch_of t h).facts most_tuples ×
-            Satisfies (read_sheet (plain_of t h)) (Named (read_sheet (plain_of t h)) z (branch_of t h).facts))
-            same
+        rw (← same)
             (subst
             (λ (b : Branch). Lawful K (read_sheet (plain_of t h)) b.count c.reps ×
             Few (read_sheet (plain_of t h)) c.reps b.facts most_tuples ×

@@ -2,7 +2,7 @@
 use Rattle.std.proofs.Common.{◌≡◌, ℕ, ◌+◌, Bool, true, false, cond, eqb, length, Ok, Err, sym, refl, ap, ◌∙◌, subst, arith, eqb-true}
 use mathlib.Core.Option.{Option}
 use borrow.Author.Tests.{eqb-false}
-use Rattle.records.specs.declared.refusal.Refusal.TheVariants.{StoresShort, RowsDue}
+use Rattle.records.specs.declared.refusal.Refusal.TheVariants.{RowsDue}
 use Rattle.meaning.specs.Terms.{names}
 use Rattle.meaning.specs.Mixes.{Draft, Trial, sealed, undecided, Stage, filling, trying, Grants, full_sheet}
 use Rattle.meaning.specs.Mixes as subject
@@ -95,8 +95,4 @@ module _ (K : ℕ → Option ℕ) (f : Filling) (h : Held) (o : Orderly f h) whe
 
 pub seal_exact : SealIsExact
 seal_exact K f h o =
-    subst
-    (λ (z : Bool).
-    SealExact K f h
-    (cond z (cond (eqb (rows_due f) 0) (Ok (new_trial f)) (Err (RowsDue (rows_due f)))) (Err StoresShort)))
-    (sym (enough_holds h o.enough)) (by_due K f h o (eqb (rows_due f) 0) refl)
+    rw (enough_holds h o.enough) (by_due K f h o (eqb (rows_due f) 0) refl)
