@@ -54,19 +54,7 @@ live_recorded t h g d verdict.Closed l = tt
 live_recorded t h g d _ l = record { fair = l.fair; stacked = l.stacked }
 
 pub whole_recorded : (t : Counts) (h : Held) (g d : ℕ) → g ≤ 1000000 → Whole t h → Whole (recorded t g d) h
-whole_recorded t h g d few w = record {
-  enough = w.enough;
-  few_sheet_names = w.few_sheet_names;
-  few_terms = w.few_terms;
-  few_constraints = w.few_constraints;
-  few_names = w.few_names;
-  few_facts = w.few_facts;
-  few_forks = w.few_forks;
-  few_granted = few;
-  constraints_kept = w.constraints_kept;
-  good = w.good;
-  live = live_recorded t h g d t.verdict w.live;
-}
+whole_recorded t h g d few w = search (arith, live_recorded t h g d t.verdict w.live)
 
 module _ (t : Counts) (h : Held) (w : Whole t h) where
   pub live : t.verdict ≡ verdict.Undecided → Live t h
