@@ -117,19 +117,7 @@ module _ (t : Counts) (h : Held) (w : Whole t h) (un : t.verdict ≡ verdict.Und
       (x : State) → closed ≡ x →
       Follows t h (counted t verdict.Closed t.facts t.names t.forks) h x
   closes_follow x e = (
-    record {
-      enough = w.enough;
-      few_sheet_names = w.few_sheet_names;
-      few_terms = w.few_terms;
-      few_constraints = w.few_constraints;
-      few_names = w.few_names;
-      few_facts = w.few_facts;
-      few_forks = w.few_forks;
-      few_granted = omega arith;
-      constraints_kept = w.constraints_kept;
-      good = w.good;
-      live = tt;
-    },
+    search arith,
     cc,
   )
 

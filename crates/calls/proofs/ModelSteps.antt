@@ -76,31 +76,13 @@ module _
   opens : length rs ≡ n → t.granted < 1000000 → Passes → LeftExact (opened t h rs)
   opens l room p =
       let at : length rs ≡ t.names = p.0.count in (
-        record {
-          enough = record {
-            labels = w.enough.labels;
-            terms = w.enough.terms;
-            facts = w.enough.facts;
-            forks = w.enough.forks;
-            tuples = w.enough.tuples;
-            representatives =
-                omega (
-                  arith,
-                  length-append rs (drop (length rs) h.representatives),
-                  length-drop (length rs) h.representatives,
-                );
-          };
-          few_sheet_names = w.few_sheet_names;
-          few_terms = w.few_terms;
-          few_constraints = w.few_constraints;
-          few_names = w.few_names;
-          few_facts = w.few_facts;
-          few_forks = w.few_forks;
-          few_granted = omega arith;
-          constraints_kept = w.constraints_kept;
-          good = w.good;
-          live = record { fair = (live t h w un).fair; stacked = (live t h w un).stacked };
-        },
+        search (
+          arith,
+          length-append rs (drop (length rs) h.representatives),
+          length-drop (length rs) h.representatives,
+          (live t h w un).fair,
+          (live t h w un).stacked,
+        ),
         rw (read_model bs n rs e)
             (subst
             (λ (z : subject.Trial). Grants K (trying (read_trial t h)) (subject.step (77 ∷ 68 ∷ n ∷ rs)) (trying z))

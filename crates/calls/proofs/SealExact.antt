@@ -55,20 +55,7 @@ module _ (K : ℕ → Option ℕ) (f : Filling) (h : Held) (o : Orderly f h) whe
         ((granted.4 (plain_of (new_trial f) h)).0 (subst Passed same_plain o.passed))
 
     whole : Whole (new_trial f) h
-    whole =
-        record {
-          enough = o.enough;
-          few_sheet_names = o.few_names;
-          few_terms = o.few_terms;
-          few_constraints = o.few_constraints;
-          few_names = omega arith;
-          few_facts = omega arith;
-          few_forks = omega arith;
-          few_granted = omega arith;
-          constraints_kept = omega arith;
-          good = fair.sheet;
-          live = record { fair = fair; stacked = no_fork };
-        }
+    whole = search (arith, fair, fair.sheet, no_fork)
 
     sealed_is :
         Whole (new_trial f) h ×
