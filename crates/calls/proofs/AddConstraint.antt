@@ -73,18 +73,7 @@ module _ (K : ℕ → Option ℕ) (f : Filling) (h : Held) (o : Orderly f h) (bs
       (w : FactRow) → f.labels_in ≡ f.labels → f.terms_in ≡ f.terms → f.constraints_in < f.constraints →
       fact_ok rows (names (read_sheet (plain_in f h))) w ≡ true → Orderly (one_constraint f) (stored w)
   orderly w el et l e =
-      record {
-        enough = fact_kept h f.constraints_in w o.enough;
-        few_names = o.few_names;
-        few_terms = o.few_terms;
-        few_constraints = o.few_constraints;
-        labels_due = o.labels_due;
-        terms_due = o.terms_due;
-        constraints_due = omega arith;
-        labels_first = λ m. el;
-        terms_first = λ m. (el, et);
-        passed = passed w l e;
-      }
+      search (arith, fact_kept h f.constraints_in w o.enough, passed w l e)
 
   -- the subject grants it
   grants :

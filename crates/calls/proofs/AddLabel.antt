@@ -46,20 +46,12 @@ module _ (K : ℕ → Option ℕ) (f : Filling) (h : Held) (o : Orderly f h) (bs
   orderly c l =
       let et = no_terms f h o l in
       let ec = no_constraints_yet f h o l in
-      record {
-        enough = label_kept h f.labels_in c o.enough;
-        few_names = o.few_names;
-        few_terms = o.few_terms;
-        few_constraints = o.few_constraints;
-        labels_due = omega arith;
-        terms_due = o.terms_due;
-        constraints_due = o.constraints_due;
-        labels_first = λ m. absurd (omega arith);
-        terms_first = λ m. absurd (omega arith);
-        passed =
-            none_passed (plain_in (one_label f) (stored c)) (ap (λ (k : ℕ). take k h.terms) et)
-            (ap (λ (k : ℕ). take k h.facts) ec);
-      }
+      search (
+        arith,
+        label_kept h f.labels_in c o.enough,
+        none_passed (plain_in (one_label f) (stored c)) (ap (λ (k : ℕ). take k h.terms) et)
+            (ap (λ (k : ℕ). take k h.facts) ec),
+      )
 
   -- the subject grants it
   grants :

@@ -109,18 +109,7 @@ module _ (K : ℕ → Option ℕ) (f : Filling) (h : Held) (o : Orderly f h) (bs
       row_ok before (names (read_sheet (plain_in f h))) f.terms_in r ≡ true → Orderly (one_term f) (stored r)
   orderly r el l e =
       let ec = no_constraints f h o l in
-      record {
-        enough = term_kept h f.terms_in r o.enough;
-        few_names = o.few_names;
-        few_terms = o.few_terms;
-        few_constraints = o.few_constraints;
-        labels_due = o.labels_due;
-        terms_due = omega arith;
-        constraints_due = o.constraints_due;
-        labels_first = λ m. el;
-        terms_first = λ m. absurd (omega arith);
-        passed = passed r l e;
-      }
+      search (arith, term_kept h f.terms_in r o.enough, passed r l e)
 
   -- the subject grants it
   grants :

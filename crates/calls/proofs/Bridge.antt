@@ -165,10 +165,7 @@ module _ (K : ℕ → Option ℕ) (P : Plain) (good : Good P) where
         Looks (uses r).p p f → Looks (uses r).q q g →
         From r (eqb p q) (read_fact P.rows f) (read_fact P.rows g) ps → Cites branch (rule_number r) p q ps
     citing r p q f g ps hp hq (from_none up uq) =
-        let zp = sym (zero_when (uses r).p p up hp.1) in
-        let zq = sym (zero_when (uses r).q q uq hq.1) in
-        subst (λ (i : ℕ). Cites branch (rule_number r) i q []) zp
-        (subst (λ (i : ℕ). Cites branch (rule_number r) 0 i []) zq cites_none)
+        rw (zero_when (uses r).p p up hp.1, zero_when (uses r).q q uq hq.1) cites_none
     citing r p q f g ps hp hq (from_one {h = h} up uq ne e) =
         let zq = sym (zero_when (uses r).q q uq hq.1) in
         subst (λ (i : ℕ). Cites branch (rule_number r) p i (h ∷ [])) (ap (λ (z : Bool). cond z p 0) ne ∙ zq)

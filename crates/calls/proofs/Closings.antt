@@ -1,12 +1,11 @@
 -- A rule without alternatives closes the branch: the latest fork is resumed, which is never refused, or the
 -- trial is closed (`closes`).
-use Rattle.std.proofs.Common.{◌≡◌, ℕ, ◌+◌, ◌-◌, ◌<◌, ◌≤◌, Bool, true, false, cond, ltb, List, [], ◌∷◌, ◌++◌, map, take, set, Some, None, Ok, Err, Option as Maybe, Result, sym, refl, ap, ◌∙◌, subst, arith, length-set, le-ltb}
+use Rattle.std.proofs.Common.{◌≡◌, ℕ, ◌+◌, ◌-◌, ◌<◌, ◌≤◌, Bool, true, false, cond, ltb, List, [], ◌∷◌, ◌++◌, map, take, set, Some, None, Ok, Err, Option as Maybe, sym, refl, ap, ◌∙◌, subst, arith, length-set, le-ltb}
 use mathlib.Core.Option.{Option}
 use Rattle.std.specs.List.{slice_get}
 use Rattle.std.proofs.lemmas.List.{take_more_set, take-set, take-take}
 use Rattle.records.specs.declared.rows.Fact.{Fact as FactRow}
 use Rattle.records.specs.declared.rows.Step.{Step}
-use Rattle.records.specs.declared.refusal.Refusal.{Refusal}
 use Rattle.records.specs.declared.refusal.Refusal.TheVariants.{NoRoom}
 use Rattle.records.specs.declared.refusal.Room.TheVariants as over
 use Rattle.records.specs.declared.verdict.Verdict.TheVariants as verdict
@@ -67,7 +66,7 @@ module _
 
   always_room : Room (branch_of t h) (open_forks t h) (plan_alts (plain_of t h) t.names y)
   always_room =
-      subst (λ (z : List Alt). Room (branch_of t h) (open_forks t h) z) (sym no_alts)
+      rw no_alts
       (record { names_fit = tt; facts_fit = tt; forks_fit = λ l. absurd (omega arith) })
 
   back_to :
@@ -150,7 +149,7 @@ module _
         ∙ ap (λ (z : List FactRow). z ++ facts_of a) (sym (take-take f.facts t.facts h.facts fit.front)))
         (forks_then (ltb (onward f).next (alternatives_of f.rule)))
         (few_forks_then (ltb (onward f).next (alternatives_of f.rule))) lands in
-        subst (λ (z : Result Outcome Refusal). Right K t h x z) (sym resumed_is)
+        rw resumed_is
         (granted t h w un room K x y ep back always_room
         (subst
         (λ (z : State). Follows t h (taken t h back).trial (taken t h back).stores z)

@@ -15,34 +15,10 @@ enough_holds h b =
 
 -- a label, a term or a fact is written
 pub label_kept : (h : Held) (i c : ℕ) → Enough h → Enough (with_labels h (set h.labels i c))
-label_kept h i c b =
-    record {
-      labels = omega (arith, length-set h.labels i c);
-      terms = b.terms;
-      facts = b.facts;
-      forks = b.forks;
-      tuples = b.tuples;
-      representatives = b.representatives;
-    }
+label_kept h i c b = search (arith, length-set h.labels i c)
 
 pub term_kept : (h : Held) (i : ℕ) (r : TermRow) → Enough h → Enough (with_terms h (set h.terms i r))
-term_kept h i r b =
-    record {
-      labels = b.labels;
-      terms = omega (arith, length-set h.terms i r);
-      facts = b.facts;
-      forks = b.forks;
-      tuples = b.tuples;
-      representatives = b.representatives;
-    }
+term_kept h i r b = search (arith, length-set h.terms i r)
 
 pub fact_kept : (h : Held) (i : ℕ) (f : Fact) → Enough h → Enough (with_facts h (set h.facts i f))
-fact_kept h i f b =
-    record {
-      labels = b.labels;
-      terms = b.terms;
-      facts = omega (arith, length-set h.facts i f);
-      forks = b.forks;
-      tuples = b.tuples;
-      representatives = b.representatives;
-    }
+fact_kept h i f b = search (arith, length-set h.facts i f)

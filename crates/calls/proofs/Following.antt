@@ -15,7 +15,7 @@ use Rattle.rules.specs.Looked.{planned}
 use Rattle.meaning.specs.Calculus.{Alt, Fork, State, running, closed, apply}
 use Rattle.meaning.specs.Mixes.{Room}
 use Rattle.meaning.specs.Mixes as subject
-use Rattle.calls.specs.Reading.{Plain, Good}
+use Rattle.calls.specs.Reading.{Good}
 use Rattle.calls.specs.Bridge.{read_branch, plan_alts, Fair, AppliesTo}
 use Rattle.calls.specs.Stores.{Held, with_facts, with_forks}
 use Rattle.calls.specs.Sheets.{Counts}
@@ -54,19 +54,7 @@ live_recorded t h g d verdict.Closed l = tt
 live_recorded t h g d _ l = record { fair = l.fair; stacked = l.stacked }
 
 pub whole_recorded : (t : Counts) (h : Held) (g d : ℕ) → g ≤ 1000000 → Whole t h → Whole (recorded t g d) h
-whole_recorded t h g d few w = record {
-  enough = w.enough;
-  few_sheet_names = w.few_sheet_names;
-  few_terms = w.few_terms;
-  few_constraints = w.few_constraints;
-  few_names = w.few_names;
-  few_facts = w.few_facts;
-  few_forks = w.few_forks;
-  few_granted = few;
-  constraints_kept = w.constraints_kept;
-  good = w.good;
-  live = live_recorded t h g d t.verdict w.live;
-}
+whole_recorded t h g d few w = search (arith, live_recorded t h g d t.verdict w.live)
 
 module _ (t : Counts) (h : Held) (w : Whole t h) where
   pub live : t.verdict ≡ verdict.Undecided → Live t h
@@ -91,13 +79,11 @@ module _ (t : Counts) (h : Held) (w : Whole t h) (un : t.verdict ≡ verdict.Und
       Follows t h (counted t t.verdict m n k) (with_facts (with_forks h ks) xs) x
   lands_follow m n k xs ks x F G lx lk ec eF eG few l =
       let same : plain_of t h ≡ plain_of (counted t t.verdict m n k) (with_facts (with_forks h ks) xs) = cc in
-      let fair =
-      subst (λ (z : Plain). Fair z (take m xs) n) same
-      (subst (λ (z : List FactRow). Fair (plain_of t h) z n) (sym eF) l.fair) in
-      let stacked =
-      subst (λ (z : Plain). Stacked z (take m xs) t.constraints m (take k ks)) same
-      (subst (λ (z : List ForkRow). Stacked (plain_of t h) (take m xs) t.constraints m z) (sym eG)
-      (subst (λ (z : List FactRow). Stacked (plain_of t h) z t.constraints m G) (sym eF) l.stacked)) in
+      let fair : Fair (plain_of (counted t t.verdict m n k) (with_facts (with_forks h ks) xs)) (take m xs) n =
+      rw (← same, eF) l.fair in
+      let stacked :
+      Stacked (plain_of (counted t t.verdict m n k) (with_facts (with_forks h ks) xs)) (take m xs) t.constraints m (take k ks) =
+      rw (← same, eF, eG) l.stacked in
       let state : state_of (counted t t.verdict m n k) (with_facts (with_forks h ks) xs) ≡ x =
       (λ i. running (read_branch (sym same i) (eF i) n) (read_forks (sym same i) (eF i) (eG i) [])) ∙ l.reads in (
         record {
@@ -131,19 +117,7 @@ module _ (t : Counts) (h : Held) (w : Whole t h) (un : t.verdict ≡ verdict.Und
       (x : State) → closed ≡ x →
       Follows t h (counted t verdict.Closed t.facts t.names t.forks) h x
   closes_follow x e = (
-    record {
-      enough = w.enough;
-      few_sheet_names = w.few_sheet_names;
-      few_terms = w.few_terms;
-      few_constraints = w.few_constraints;
-      few_names = w.few_names;
-      few_facts = w.few_facts;
-      few_forks = w.few_forks;
-      few_granted = omega arith;
-      constraints_kept = w.constraints_kept;
-      good = w.good;
-      live = tt;
-    },
+    search arith,
     cc,
   )
 
@@ -161,10 +135,8 @@ module _ (t : Counts) (h : Held) (w : Whole t h) (un : t.verdict ≡ verdict.Und
         Right K t h x (Err e)
     refused e never = λ alts a has.
         never
-        (subst (λ (z : List Alt). Room (branch_of t h) (open_forks t h) z)
-        (bridged.2 K (plain_of t h) (branch_facts t h) t.names (live t h w un).fair x alts
-        (plan_alts (plain_of t h) t.names y) a applies)
-        has)
+        (rw (bridged.2 K (plain_of t h) (branch_facts t h) t.names (live t h w un).fair x alts
+        (plan_alts (plain_of t h) t.names y) a applies) at has)
 
     pub granted :
         (o : Outcome) → Room (branch_of t h) (open_forks t h) (plan_alts (plain_of t h) t.names y) →

@@ -1,17 +1,13 @@
 -- Forks are read the same, and fit the same, over facts with the front that they were made on (`forks_same`,
 -- `stack_moved`); the latest fork of a stack fits, over a stack of the others (`top`).
-use Rattle.std.proofs.Common.{◌≡◌, ℕ, zero, suc, ◌+◌, ◌-◌, ◌<◌, ◌≤◌, List, [], ◌∷◌, ◌++◌, map, length, take, Option as Maybe, sym, refl, ap, ◌∙◌, subst, ap₂, arith}
+use Rattle.std.proofs.Common.{◌≡◌, ℕ, zero, suc, ◌+◌, ◌-◌, ◌<◌, ◌≤◌, List, [], ◌∷◌, ◌++◌, map, length, take, sym, refl, ap, ◌∙◌, subst, ap₂, arith}
 use Rattle.std.specs.List.{AllByRecursion}
 use Rattle.std.proofs.lemmas.List.{same_from_push, length-map}
 use Rattle.records.specs.declared.rows.Fact.{Fact as FactRow}
-use Rattle.rules.specs.declared.cited.Alt.{Alt as AltRow}
 use Rattle.rules.specs.declared.outcome.Fork.{Fork as ForkRow}
 use Rattle.meaning.specs.Calculus.{Fork, up_from}
-use Rattle.calls.specs.Reading.{Plain, alt_facts}
-use Rattle.calls.specs.Passing.{alt_rows}
-use Rattle.calls.specs.Bridge.{Fair}
-use Rattle.calls.specs.RuleSteps.{or_none, cited_again}
-use Rattle.calls.specs.Views.{cited_at, read_fork, read_forks, ForkFits, Stacked, no_fork, over}
+use Rattle.calls.specs.Reading.{Plain}
+use Rattle.calls.specs.Views.{read_fork, read_forks, ForkFits, Stacked, no_fork, over}
 use Rattle.meaning.proofs.RuleFits.{run_length}
 use Rattle.calls.proofs.Fronts.{front_cut, nth_cut}
 
@@ -98,26 +94,9 @@ module _ (P : Plain) where
           cites_below = h.cites_below;
           few_names = h.few_names;
           left = h.left;
-          names_fit =
-              subst
-              (λ (z : Maybe FactRow). AllByRecursion (λ (a : AltRow). f.names + a.fresh ≤ 64)
-              (alt_rows f.rule (cited_again P.rows (or_none z) f.t) f.names))
-              ep h.names_fit;
-          facts_fit =
-              subst
-              (λ (z : Maybe FactRow). AllByRecursion (λ (a : AltRow). f.facts + length (alt_facts a) ≤ 1024)
-              (alt_rows f.rule (cited_again P.rows (or_none z) f.t) f.names))
-              ep h.facts_fit;
-          fair =
-              subst
-              (λ (z : List FactRow). AllByRecursion (λ (a : AltRow). Fair P (z ++ alt_facts a) (f.names + a.fresh))
-              (alt_rows f.rule (cited_at P ds f) f.names))
-              en
-              (subst
-              (λ (z : Maybe FactRow).
-              AllByRecursion (λ (a : AltRow). Fair P (take f.facts cs ++ alt_facts a) (f.names + a.fresh))
-              (alt_rows f.rule (cited_again P.rows (or_none z) f.t) f.names))
-              ep h.fair);
+          names_fit = rw ep at h.names_fit;
+          facts_fit = rw ep at h.facts_fit;
+          fair = rw (en, ep) at h.fair;
         }
 
     pub stack_moved :

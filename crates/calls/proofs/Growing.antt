@@ -1,6 +1,6 @@
 -- A rule with alternatives is granted exactly where there is room for them: one alternative is appended, and
 -- of several the first, with a fork for the others (`grows`).
-use Rattle.std.proofs.Common.{◌≡◌, ℕ, ◌+◌, ◌<◌, ◌≤◌, Bool, true, false, cond, eqb, ltb, List, ◌++◌, length, set, Some, Ok, Err, Result, sym, refl, ap, ◌∙◌, subst, arith, length-set, ltb-false, ltb-true, eqb-true}
+use Rattle.std.proofs.Common.{◌≡◌, ℕ, ◌+◌, ◌<◌, ◌≤◌, Bool, true, false, cond, eqb, ltb, List, ◌++◌, length, set, Some, Ok, Err, Result, refl, ap, ◌∙◌, subst, arith, length-set, ltb-false, ltb-true, eqb-true}
 use mathlib.Core.Option.{Option}
 use Rattle.std.specs.List.{AllByRecursion, slice_get}
 use Rattle.std.proofs.lemmas.Bool.{both_ways, eqb-false}
@@ -79,9 +79,7 @@ module _
   with_room : Names → Facts → (2 ≤ alternatives_of y.rule → t.forks < 64) → HasRoom
   with_room names facts forks =
       has_room (plain_of t h) (branch_facts t h) t.names (forks_of t h) y.rule y.cited names
-      (subst (λ (k : ℕ). AllByRecursion (λ (z : AltRow). k + length (alt_facts z) ≤ 1024) rows)
-      (sym (facts_long t h w)) facts)
-      (λ l. subst (λ (k : ℕ). k < 64) (sym (forks_long t h w)) (forks l))
+      (rw (facts_long t h w) facts) (λ l. rw (forks_long t h w) (forks l))
 
   -- ── granted ──────────────────────────────────────────────────────────────
 
@@ -152,12 +150,10 @@ module _
   at_forks false e z₁ names facts =
       refused t h w un room K x y ep (NoRoom over.Forks)
       (λ has.
-      (let l : 64 ≤ t.forks = ltb-false _ _ e in
-      let two = (forking y.rule z₀ z₁).1 in
-      let two_or_more : 2 ≤ alternatives_of y.rule = subst (λ (k : ℕ). 2 ≤ k) (sym two.1) (omega arith) in
-      let few : length (forks_of t h) < 64 =
-      room_forks (plain_of t h) (branch_facts t h) t.names (forks_of t h) y.rule y.cited has two_or_more in
-      let e = forks_long t h w in omega arith))
+      (let two = (forking y.rule z₀ z₁).1 in
+      let few =
+      room_forks (plain_of t h) (branch_facts t h) t.names (forks_of t h) y.rule y.cited has (omega (arith, two.1)) in
+      omega (arith, ltb-false _ _ e, few, forks_long t h w)))
 
   at_one :
       (b : Bool) → eqb (alternatives_of y.rule) 1 ≡ b → Names → Facts → Right K t h x (by_one b)
@@ -171,7 +167,7 @@ module _
       (λ has.
       both_ways _
       ((room_told.1 y.rule y.cited t.names t.facts w.few_facts).1
-      (subst (λ (k : ℕ). AllByRecursion (λ (z : AltRow). k + length (alt_facts z) ≤ 1024) rows) (facts_long t h w)
+      (rw (facts_long t h w) at
       (room_facts (plain_of t h) (branch_facts t h) t.names (forks_of t h) y.rule y.cited has)))
       e)
   at_facts false e names =

@@ -159,9 +159,7 @@ module _
             facts_fit = all_again (λ (z : AltRow). m + length (alt_facts z) ≤ 1024) facts_fit;
             fair =
                 all_again (λ (z : AltRow). Fair P (take m (F ++ facts_of a) ++ alt_facts z) (n + z.fresh))
-                (subst
-                (λ (y : List FactRow). AllByRecursion (λ (z : AltRow). Fair P (y ++ alt_facts z) (n + z.fresh)) (alt_rows r q n))
-                (sym front_is) all_fair);
+                (rw front_is all_fair);
           });
       few_facts = lm;
       few_names = ln;

@@ -2,7 +2,7 @@
 use Rattle.std.proofs.Common.{◌≡◌, ℕ, ◌+◌, Bool, true, false, cond, eqb, leb, List, Some, None, Ok, Err, Option, sym, refl, subst, arith, eq-eqb, eqb-true, le-leb, leb-true}
 use Rattle.std.proofs.lemmas.Bool.{and_from, and_parts}
 use borrow.Author.Tests.{both_ways}
-use Rattle.records.specs.declared.refusal.Refusal.TheVariants.{StoresShort, WrongLetter, OverLimit}
+use Rattle.records.specs.declared.refusal.Refusal.TheVariants.{WrongLetter, OverLimit}
 use Rattle.records.specs.declared.rows.Header.{Header as HeaderRow}
 use Rattle.records.specs.Reading.{header_in}
 use Rattle.meaning.specs.Mixes.{Header, Made}
@@ -54,17 +54,16 @@ module _ (letter : ℕ) (h : Held) (bs : List ℕ) (b : Enough h) where
       (G : HeaderRow) → header_in bs ≡ Some G → HeaderTold bs (Some G) → eqb G.letter letter ≡ true →
       (z : Bool) → within G ≡ z → MakeExact letter h bs (cond z (Ok (empty_sheet G)) (Err OverLimit))
   by_within G e told el true ew =
-      let p = and_parts (leb (G.labels + G.free) 32) _ ew in
-      let q = and_parts (leb G.terms 64) (leb G.constraints 128) p.1 in (
-        begun G ew,
+      let o = begun G ew in (
+        o,
         (
           subjects G,
           record {
             bytes = told;
             the_kinds = eqb-true _ _ el;
-            names_fit = leb-true _ _ p.0;
-            terms_fit = leb-true _ _ q.0;
-            constraints_fit = leb-true _ _ q.1;
+            names_fit = o.few_names;
+            terms_fit = o.few_terms;
+            constraints_fit = o.few_constraints;
           },
           refl,
         ),
@@ -87,5 +86,4 @@ module _ (letter : ℕ) (h : Held) (bs : List ℕ) (b : Enough h) where
 
 pub make_exact : MakeIsExact
 make_exact letter h bs b =
-    subst (λ (z : Bool). MakeExact letter h bs (cond z (make_headed letter (header_in bs)) (Err StoresShort)))
-    (sym (enough_holds h b)) (by_header letter h bs b (header_in bs) refl (header_told bs))
+    rw (enough_holds h b) (by_header letter h bs b (header_in bs) refl (header_told bs))

@@ -76,35 +76,14 @@ module _
   opens : length rs ≡ n → t.granted < 1000000 → Passes → LeftExact (opened t h rs)
   opens l room p =
       let at : length rs ≡ t.names = p.0.count in (
-        record {
-          enough = record {
-            labels = w.enough.labels;
-            terms = w.enough.terms;
-            facts = w.enough.facts;
-            forks = w.enough.forks;
-            tuples = w.enough.tuples;
-            representatives =
-                omega (
-                  arith,
-                  length-append rs (drop (length rs) h.representatives),
-                  length-drop (length rs) h.representatives,
-                );
-          };
-          few_sheet_names = w.few_sheet_names;
-          few_terms = w.few_terms;
-          few_constraints = w.few_constraints;
-          few_names = w.few_names;
-          few_facts = w.few_facts;
-          few_forks = w.few_forks;
-          few_granted = omega arith;
-          constraints_kept = w.constraints_kept;
-          good = w.good;
-          live = record { fair = (live t h w un).fair; stacked = (live t h w un).stacked };
-        },
-        subst
-            (λ (z : List ℕ). Grants K (trying (read_trial t h)) (subject.step z)
-            (trying (read_trial (opened t h rs).trial (opened t h rs).stores)))
-            (sym (read_model bs n rs e))
+        search (
+          arith,
+          length-append rs (drop (length rs) h.representatives),
+          length-drop (length rs) h.representatives,
+          (live t h w un).fair,
+          (live t h w un).stacked,
+        ),
+        rw (read_model bs n rs e)
             (subst
             (λ (z : subject.Trial). Grants K (trying (read_trial t h)) (subject.step (77 ∷ 68 ∷ n ∷ rs)) (trying z))
             (cc (runs K t h bs w un, take_at rs (drop (length rs) h.representatives) t.names at))
@@ -117,11 +96,7 @@ module _
       let same : c.reps ≡ rs = cc (e, model_is c) in
       let at_branch : c.branch ≡ branch_of t h = cc (runs K t h bs w un, c.state) in (
         ap length (sym same) ∙ c.counted ∙ cc (e, model_is c),
-        subst
-            (λ (z : List ℕ). Lawful K (read_sheet (plain_of t h)) t.names z ×
-            Few (read_sheet (plain_of t h)) z (branch_of t h).facts most_tuples ×
-            Satisfies (read_sheet (plain_of t h)) (Named (read_sheet (plain_of t h)) z (branch_of t h).facts))
-            same
+        rw (← same)
             (subst
             (λ (b : Branch). Lawful K (read_sheet (plain_of t h)) b.count c.reps ×
             Few (read_sheet (plain_of t h)) c.reps b.facts most_tuples ×

@@ -57,8 +57,8 @@ module _ (P : Plain) (F : List FactRow) (n : ℕ) (G : List ForkRow) (r : RuleNa
       ↔ AllByRecursion (λ (a : AltRow). length F + length (alt_facts a) ≤ 1024) (alt_rows r q n)
   facts_mapped =
       let m = all_mapped _ (read_alt P.rows) (alt_rows r q n) in (
-        λ h. All-weaker _ _ (λ a l. subst (λ (k : ℕ). k ≤ 1024) (reach a) l) (alt_rows r q n) (m.0 h),
-        λ h. m.1 (All-weaker _ _ (λ a l. subst (λ (k : ℕ). k ≤ 1024) (sym (reach a)) l) (alt_rows r q n) h),
+        λ h. All-weaker _ _ (λ a l. omega (arith, reach a)) (alt_rows r q n) (m.0 h),
+        λ h. m.1 (All-weaker _ _ (λ a l. omega (arith, reach a)) (alt_rows r q n) h),
       )
 
   pub has_room :

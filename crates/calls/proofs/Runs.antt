@@ -72,9 +72,7 @@ module _ (single : Single) where
         (r : Result (Unit {0}) Refusal) → AddExact K f h bs f' h' r → Went K (sheet f h) (add bs) (sheet f' h')
     add_went K f h bs good f' h' (Ok x) (kept, g) = yes_call K (sheet f h) (add bs) (sheet f' h') good kept g
     add_went K f h bs good f' h' (Err e) (sf, sh, never) =
-        subst (λ (y : Filling). Went K (sheet f h) (add bs) (sheet y h')) (sym sf)
-        (subst (λ (y : Held). Went K (sheet f h) (add bs) (sheet f y)) (sym sh)
-        (no_call K (sheet f h) (add bs) (sheet f h) tt good never refl))
+        rw (sf, sh) (no_call K (sheet f h) (add bs) (sheet f h) tt good never refl)
 
     -- seal
     seal_went :
@@ -89,9 +87,8 @@ module _ (single : Single) where
         (r : Result (Unit {0}) Refusal) → StepExact K t h bs t' h' r → Went K (trial t h) (step bs) (trial t' h')
     step_went K t h bs good t' h' (Ok x) (kept, g) = yes_call K (trial t h) (step bs) (trial t' h') good kept g
     step_went K t h bs good t' h' (Err e) (st, sh, never) =
-        subst (λ (y : Counts). Went K (trial t h) (step bs) (trial y h')) (sym st)
-        (subst (λ (y : Held). Went K (trial t h) (step bs) (trial (denied_once t) y)) (sym sh)
-        (no_call K (trial t h) (step bs) (trial (denied_once t) h) tt (whole_recorded t h t.granted (denied_once t).denied good.few_granted good) never (read_denied t h)))
+        rw (st, sh)
+        (no_call K (trial t h) (step bs) (trial (denied_once t) h) tt (whole_recorded t h t.granted (denied_once t).denied good.few_granted good) never (read_denied t h))
 
     -- settle
     settle_went :

@@ -2,7 +2,7 @@
 use Rattle.std.proofs.Common.{◌≡◌, ℕ, ◌+◌, Bool, true, false, cond, eqb, length, Ok, Err, sym, refl, ap, ◌∙◌, subst, arith, eqb-true}
 use mathlib.Core.Option.{Option}
 use borrow.Author.Tests.{eqb-false}
-use Rattle.records.specs.declared.refusal.Refusal.TheVariants.{StoresShort, RowsDue}
+use Rattle.records.specs.declared.refusal.Refusal.TheVariants.{RowsDue}
 use Rattle.meaning.specs.Terms.{names}
 use Rattle.meaning.specs.Mixes.{Draft, Trial, sealed, undecided, Stage, filling, trying, Grants, full_sheet}
 use Rattle.meaning.specs.Mixes as subject
@@ -55,20 +55,7 @@ module _ (K : ℕ → Option ℕ) (f : Filling) (h : Held) (o : Orderly f h) whe
         ((granted.4 (plain_of (new_trial f) h)).0 (subst Passed same_plain o.passed))
 
     whole : Whole (new_trial f) h
-    whole =
-        record {
-          enough = o.enough;
-          few_sheet_names = o.few_names;
-          few_terms = o.few_terms;
-          few_constraints = o.few_constraints;
-          few_names = omega arith;
-          few_facts = omega arith;
-          few_forks = omega arith;
-          few_granted = omega arith;
-          constraints_kept = omega arith;
-          good = fair.sheet;
-          live = record { fair = fair; stacked = no_fork };
-        }
+    whole = search (arith, fair, fair.sheet, no_fork)
 
     sealed_is :
         Whole (new_trial f) h ×
@@ -95,8 +82,4 @@ module _ (K : ℕ → Option ℕ) (f : Filling) (h : Held) (o : Orderly f h) whe
 
 pub seal_exact : SealIsExact
 seal_exact K f h o =
-    subst
-    (λ (z : Bool).
-    SealExact K f h
-    (cond z (cond (eqb (rows_due f) 0) (Ok (new_trial f)) (Err (RowsDue (rows_due f)))) (Err StoresShort)))
-    (sym (enough_holds h o.enough)) (by_due K f h o (eqb (rows_due f) 0) refl)
+    rw (enough_holds h o.enough) (by_due K f h o (eqb (rows_due f) 0) refl)

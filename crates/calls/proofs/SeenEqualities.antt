@@ -166,7 +166,7 @@ module _ (K : ℕ → Option ℕ) (P : Plain) (good : Good P) where
           let r = and_parts (eqb w 0) _ e in
           let r' = and_parts (eqb f.form 1 || eqb f.form 3) _ r.1 in
           let q = eqb-true f.term g.term r'.1 in
-          subst (λ (x : ℕ). Found K P n R.SwapTerm o f g 0 x) (sym (eqb-true w 0 r.0))
+          rw (eqb-true w 0 r.0)
           (⊎_elim
           (λ z.
           give (swap_term_member {s = g.term})
@@ -188,7 +188,7 @@ module _ (K : ℕ → Option ℕ) (P : Plain) (good : Good P) where
           let r' = and_parts (eqb f.form 3) _ r.1 in
           let q = eqb-true f.a g.term r'.1 in
           let ef = form_same P.rows f (eqb-true _ _ r'.0) in
-          subst (λ (x : ℕ). Found K P n R.SwapTerm o f g 0 x) (sym (eqb-true w 1 r.0))
+          rw (eqb-true w 1 r.0)
           (give (swap_term_right {s = g.term})
           (from_two refl refl ((λ i. signed f.positive (same f.term (sym q i))) ∙ ef) eq))
 

@@ -1,7 +1,7 @@
 -- A step by a rule is granted exactly where the subject has a case for its bytes (`rule_step_exact`), no other
 -- bytes are (`other_step_exact`, `short_model_denied`), none is once there is a verdict (`decided_step_exact`),
 -- and a settle is granted exactly where there is one (`settle_exact`).
-use Rattle.std.proofs.Common.{◌≡◌, ℕ, ◌+◌, ◌*◌, ◌<◌, ◌≤◌, Bool, true, false, cond, leb, List, [], ◌∷◌, length, Ok, Err, Result, sym, refl, ap, subst, ⊎_elim, arith, leb-false, leb-true}
+use Rattle.std.proofs.Common.{◌≡◌, ℕ, ◌+◌, ◌*◌, ◌<◌, ◌≤◌, Bool, true, false, cond, leb, List, length, Ok, Err, Result, sym, refl, ap, subst, ⊎_elim, arith, leb-false, leb-true}
 use mathlib.Core.Option.{Option}
 use Rattle.records.specs.declared.rows.Step.{Step}
 use Rattle.records.specs.declared.refusal.Refusal.{Refusal}
@@ -12,10 +12,9 @@ use Rattle.records.specs.Verdicts.{reached_by}
 use Rattle.records.specs.Reading.{Move, rule, model, other, byte, step_of, step_in}
 use Rattle.rules.specs.declared.outcome.Outcome.{Outcome}
 use Rattle.rules.specs.declared.outcome.Outcome.TheVariants as outcome
-use Rattle.meaning.specs.Calculus.{Alt, Branch, Fork, running, Applies}
+use Rattle.meaning.specs.Calculus.{Alt, running}
 use Rattle.meaning.specs.Mixes.{undecided, Decided, Room, trying, Grants, rule_step, verdict_there}
 use Rattle.meaning.specs.Mixes as subject
-use Rattle.calls.specs.Reading.{read_sheet}
 use Rattle.calls.specs.Bridge.{AppliesTo}
 use Rattle.calls.specs.Stores.{Held}
 use Rattle.calls.specs.Sheets.{Counts}
@@ -66,14 +65,8 @@ module _ (K : ℕ → Option ℕ) (t : Counts) (h : Held) (bs : List ℕ) (w : W
       let at_branch : c.branch ≡ branch_of t h = cc (runs, c.state) in
       let at_forks : c.forks ≡ open_forks t h = cc (runs, c.state) in (
         c.alts,
-        subst (λ (z : Step). AppliesTo K (plain_of t h) (branch_facts t h) t.names z c.alts) (sym same)
-            (subst
-            (λ (z : Branch).
-            Applies K (read_sheet (plain_of t h)) z c.r (c.ph * 256 + c.pl) (c.qh * 256 + c.ql) c.t c.w
-            c.alts)
-            at_branch c.applies),
-        subst (λ (z : Branch). Room z (open_forks t h) c.alts) at_branch
-            (subst (λ (z : List Fork). Room c.branch z c.alts) at_forks c.room),
+        rw (same, ← at_branch) c.applies,
+        rw (← at_branch, ← at_forks) c.room,
       )
 
   -- granted, or refused, as the step is right to come to
@@ -84,21 +77,11 @@ module _ (K : ℕ → Option ℕ) (t : Counts) (h : Held) (bs : List ℕ) (w : W
       let r = read_rule bs x e in
       let a : AppliesTo K (plain_of t h) (branch_facts t h) t.names (step_of bs) g.0 =
       subst (λ (z : Step). AppliesTo K (plain_of t h) (branch_facts t h) t.names z g.0) (sym r.1) g.1 in
-      subst (λ (z : Result (Unit {0}) Refusal). StepExact K t h bs (taken t h o).trial (taken t h o).stores z)
-      (sym (taken_ok t h o)) (
+      rw (taken_ok t h o) (
         g.3,
-        subst
-            (λ (z : List ℕ). Grants K (trying (read_trial t h)) (subject.step z)
-            (trying (read_trial (taken t h o).trial (taken t h o).stores)))
-            (sym r.0)
-            (subst
-            (λ (z : subject.Trial). Grants K (trying (read_trial t h))
-            (subject.step
-            (83 ∷ 84 ∷ byte bs 2 ∷ byte bs 3 ∷ byte bs 4 ∷ byte bs 5 ∷ byte bs 6 ∷ byte bs 7 ∷ byte bs 8 ∷ []))
-            (trying z))
-            (sym g.4)
+        rw (r.0, g.4)
             (rule_step (byte bs 2) (byte bs 3) (byte bs 4) (byte bs 5) (byte bs 6) (byte bs 7) (byte bs 8) no_verdict
-            runs room a g.2)),
+            runs room a g.2),
       )
   by_outcome x e room (Err r) never =
       left K t h bs r
@@ -159,7 +142,7 @@ pub decided_step_exact :
 decided_step_exact K t h bs verdict.Undecided e r m = absurd cc
 decided_step_exact K t h bs _ e r m =
     left K t h bs VerdictReached
-    (decided_denied K t h bs (subst (λ (v : Verdict). Decided (verdict_by v t h)) (sym e) tt))
+    (decided_denied K t h bs (rw e tt))
 
 -- ── settle ─────────────────────────────────────────────────────────────────
 
@@ -168,4 +151,4 @@ settle_exact K t h w = go t.verdict refl
   where
     go : (v : Verdict) → t.verdict ≡ v → SettleExact K t h (cond (reached_by v) (Ok tt) (Err NoVerdict))
     go verdict.Undecided e = λ st' g. subst (λ (v : Verdict). Decided (verdict_by v t h)) e (told g)
-    go _ e = verdict_there (subst (λ (v : Verdict). Decided (verdict_by v t h)) (sym e) tt)
+    go _ e = verdict_there (rw e tt)
