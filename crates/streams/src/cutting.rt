@@ -42,6 +42,7 @@ fn record_size(stream: &[u8]) -> usize
 }
 
 // Cuts off the first record: that, and what comes after it.
+// It is no iterator over records: a row is due also where the stream has ended, and is then empty.
 pub(crate) fn cut_off(stream: &[u8]) -> (&[u8], &[u8])
     ensures first { result.0.now ≡ first_record stream.now }
     ensures rest { result.1.now ≡ after_first stream.now }
