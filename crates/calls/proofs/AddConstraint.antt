@@ -1,9 +1,11 @@
 -- A constraint row is granted exactly as the subject has it (`constraint_exact`).
 use Rattle.std.proofs.Common.{◌≡◌, ℕ, ◌+◌, ◌<◌, Bool, true, false, cond, ◌&&◌, ltb, leb, List, [], ◌∷◌, ◌++◌, map, take, set, Ok, sym, refl, ap, ◌∙◌, subst, arith, ltb-false, ltb-true}
+use Rattle.std.proofs.lemmas.Bool.{and_from, and_parts}
 use mathlib.Core.Option.{Option}
 use borrow.Author.Tests.{both_ways}
 use Rattle.std.specs.List.{AllByRecursion}
-use Rattle.std.proofs.lemmas.List.{take_more_set}
+use Rattle.std.proofs.ByRecursion.{All-append}
+use Rattle.std.proofs.lemmas.List.{take_more_set, map_push}
 use Rattle.records.specs.declared.rows.Fact.{Fact as FactRow}
 use Rattle.records.specs.declared.rows.TermRow.{TermRow}
 use Rattle.records.specs.declared.rows.ConstraintRow.{ConstraintRow}
@@ -21,10 +23,8 @@ use Rattle.calls.specs.Stores.{Held, with_facts}
 use Rattle.calls.specs.Sheets.{Filling, one_constraint, constraint_added, row_added, not_added}
 use Rattle.records.specs.Reading.{fact_said}
 use Rattle.calls.specs.Views.{Orderly, plain_in, read_draft}
-use Rattle.calls.proofs.Truth.{and_split, and_true}
 use Rattle.calls.proofs.Bytes.{RowTold, constraint_bytes}
 use Rattle.calls.proofs.FactBytes.{said_by, fact_written, said_back, said_again, sign_low, fact_refits}
-use Rattle.calls.proofs.OneMore.{map_push, all_push}
 use Rattle.calls.proofs.Enough.{fact_kept}
 use Rattle.calls.proofs.Filled.{codes_in, rows_in, constraints_in, names_in}
 use Rattle.calls.proofs.Granted.{granted}
@@ -47,8 +47,6 @@ module _ (K : ℕ → Option ℕ) (f : Filling) (h : Held) (o : Orderly f h) (bs
       (w : FactRow) → f.constraints_in < f.constraints →
       take (f.constraints_in + 1) (stored w).facts ≡ take f.constraints_in h.facts ++ (w ∷ [])
   more w l =
-      let p = o.few_constraints in
-      let q = o.enough.facts in
       take_more_set h.facts f.constraints_in w (omega arith)
 
   -- the draft has one constraint more
@@ -57,21 +55,7 @@ module _ (K : ℕ → Option ℕ) (f : Filling) (h : Held) (o : Orderly f h) (bs
       drafted (read_draft f h) (with_constraint (read_draft f h).sheet (read_fact rows w))
       ≡ read_draft (one_constraint f) (stored w)
   draft_is w l =
-      let old = take f.constraints_in h.facts in
-      let ec = sym (ap (map (read_fact rows)) (more w l) ∙ map_push (read_fact rows) old w) in
-      λ i.
-      record {
-        labels = f.labels;
-        terms = f.terms;
-        constraints = f.constraints;
-        sheet =
-            record {
-              codes = (read_draft f h).sheet.codes;
-              free = f.free;
-              rows = (read_draft f h).sheet.rows;
-              constraints = ec i;
-            };
-      }
+      cc (ap (map (read_fact rows)) (more w l), map_push (read_fact rows) (take f.constraints_in h.facts) w)
 
   -- each constraint passed
   passed :
@@ -82,25 +66,14 @@ module _ (K : ℕ → Option ℕ) (f : Filling) (h : Held) (o : Orderly f h) (bs
         rows = o.passed.rows;
         constraints =
             subst (AllByRecursion (λ (x : FactRow). fact_ok rows (names (read_sheet (plain_in f h))) x ≡ true)) (sym (more w l))
-            (all_push _ (take f.constraints_in h.facts) w o.passed.constraints e);
+            (All-append _ (take f.constraints_in h.facts) (w ∷ []) o.passed.constraints (e, tt));
       }
 
   orderly :
       (w : FactRow) → f.labels_in ≡ f.labels → f.terms_in ≡ f.terms → f.constraints_in < f.constraints →
       fact_ok rows (names (read_sheet (plain_in f h))) w ≡ true → Orderly (one_constraint f) (stored w)
   orderly w el et l e =
-      record {
-        enough = fact_kept h f.constraints_in w o.enough;
-        few_names = o.few_names;
-        few_terms = o.few_terms;
-        few_constraints = o.few_constraints;
-        labels_due = o.labels_due;
-        terms_due = o.terms_due;
-        constraints_due = omega arith;
-        labels_first = λ m. el;
-        terms_first = λ m. (el, et);
-        passed = passed w l e;
-      }
+      search (arith, fact_kept h f.constraints_in w o.enough, passed w l e)
 
   -- the subject grants it
   grants :
@@ -112,14 +85,11 @@ module _ (K : ℕ → Option ℕ) (f : Filling) (h : Held) (o : Orderly f h) (bs
   grants r el et l told es b =
       let F = read_fact rows (fact_said r) in
       let er : said_by (write_fact F) ≡ r = ap said_by b.written ∙ said_again r es in
-      subst
-      (λ (x : List ℕ).
-      Grants K (filling (read_draft f h)) (subject.add x)
-      (filling (read_draft (one_constraint f) (stored (fact_said r)))))
-      (fact_written F (told ∙ ap (λ (x : ConstraintRow). 67 ∷ 78 ∷ constraint_bytes x) (sym er)))
-      (subst (λ (D : Draft). Grants K (filling (read_draft f h)) (subject.add (67 ∷ 78 ∷ fact_bytes F)) (filling D))
-      (draft_is (fact_said r) l)
-      (constraint_row F (codes_in f h o ∙ el) (rows_in f h o ∙ et) (omega (arith, constraints_in f h o)) b.fits))
+      rw (
+        ← fact_written F (told ∙ ap (λ (x : ConstraintRow). 67 ∷ 78 ∷ constraint_bytes x) (sym er)),
+        ← draft_is (fact_said r) l,
+      )
+      (constraint_row {D = read_draft f h} F (codes_in f h o ∙ el) (rows_in f h o ∙ et) (omega (arith, constraints_in f h o)) b.fits)
 
   -- the sign and the fact of a row that the subject's case has
   fits_when :
@@ -143,7 +113,7 @@ module _ (K : ℕ → Option ℕ) (f : Filling) (h : Held) (o : Orderly f h) (bs
       (record { result = Ok tt; sheet = one_constraint f; stores = stored (fact_said r) })
       (not_added f h (IllConstraint f.constraints_in)))
   by_test r e told el et l true q =
-      let p = and_split (leb r.sign 1) (fact_ok rows (f.labels + f.free) (fact_said r)) q in
+      let p = and_parts (leb r.sign 1) (fact_ok rows (f.labels + f.free) (fact_said r)) q in
       let q' = ap (λ (n : ℕ). fact_ok rows n (fact_said r)) (names_in f h o el) ∙ p.1 in (
         orderly (fact_said r) el et l q',
         grants r el et l told p.0
@@ -154,7 +124,7 @@ module _ (K : ℕ → Option ℕ) (f : Filling) (h : Held) (o : Orderly f h) (bs
       (λ c.
       (let b = fits_when r c in
       both_ways (leb r.sign 1 && fact_ok rows (f.labels + f.free) (fact_said r)) q
-      (and_true b.0
+      (and_from _ _ b.0
       (ap (λ (n : ℕ). fact_ok rows n (fact_said r)) (sym (names_in f h o el))
       ∙ (granted.1 (plain_in f h) good.rows_fit (names (read_sheet (plain_in f h))) (fact_said r)).1 b.1))))
 
@@ -167,11 +137,7 @@ module _ (K : ℕ → Option ℕ) (f : Filling) (h : Held) (o : Orderly f h) (bs
       (leb r.sign 1 && fact_ok rows (f.labels + f.free) (fact_said r)) refl
   by_due r e told el et false q =
       refused K f h bs (option.Some (row.Constraint r)) e NotDue
-      (λ c.
-      (let l = ltb-false f.constraints_in f.constraints q in
-      let m = c.2.due in
-      let n = constraints_in f h o in
-      omega arith))
+      (λ c. omega (arith, ltb-false _ _ q, c.2.due, constraints_in f h o))
 
   by_terms :
       (r : ConstraintRow) → row_in bs ≡ option.Some (row.Constraint r) → RowTold bs (option.Some (row.Constraint r)) →
@@ -181,15 +147,9 @@ module _ (K : ℕ → Option ℕ) (f : Filling) (h : Held) (o : Orderly f h) (bs
       (cond (ltb f.constraints_in f.constraints) (constraint_added f h r) (not_added f h NotDue)))
   by_terms r e told el true q =
       refused K f h bs (option.Some (row.Constraint r)) e NotDue
-      (λ c.
-      (let l = ltb-true f.terms_in f.terms q in
-      let m = c.2.terms in
-      let n = rows_in f h o in
-      omega arith))
+      (λ c. omega (arith, ltb-true _ _ q, c.2.terms, rows_in f h o))
   by_terms r e told el false q =
-      let l = ltb-false f.terms_in f.terms q in
-      let m = o.terms_due in
-      by_due r e told el (omega arith) (ltb f.constraints_in f.constraints) refl
+      by_due r e told el (omega (arith, ltb-false _ _ q)) (ltb f.constraints_in f.constraints) refl
 
   pub constraint_exact :
       (r : ConstraintRow) → row_in bs ≡ option.Some (row.Constraint r) → RowTold bs (option.Some (row.Constraint r)) →
@@ -204,12 +164,6 @@ module _ (K : ℕ → Option ℕ) (f : Filling) (h : Held) (o : Orderly f h) (bs
           (cond (ltb f.constraints_in f.constraints) (constraint_added f h r) (not_added f h NotDue))))
       by_labels true q =
           refused K f h bs (option.Some (row.Constraint r)) e NotDue
-          (λ c.
-          (let l = ltb-true f.labels_in f.labels q in
-          let m = c.2.labels in
-          let n = codes_in f h o in
-          omega arith))
+          (λ c. omega (arith, ltb-true _ _ q, c.2.labels, codes_in f h o))
       by_labels false q =
-          let l = ltb-false f.labels_in f.labels q in
-          let m = o.labels_due in
-          by_terms r e told (omega arith) (ltb f.terms_in f.terms) refl
+          by_terms r e told (omega (arith, ltb-false _ _ q)) (ltb f.terms_in f.terms) refl

@@ -1,12 +1,12 @@
 -- add runs exactly as the subject has it (`add_exact`).
-use Rattle.std.proofs.Common.{◌≡◌, ℕ, Bool, cond, List, sym, refl, subst}
+use Rattle.std.proofs.Common.{◌≡◌, ℕ, List, refl}
 use mathlib.Core.Option.{Option}
 use Rattle.std.specs.declared.option.Option.TheVariants as option
 use Rattle.records.specs.declared.record.RowRecord.TheVariants as row
-use Rattle.records.specs.declared.refusal.Refusal.TheVariants.{StoresShort, NotDue}
+use Rattle.records.specs.declared.refusal.Refusal.TheVariants.{NotDue}
 use Rattle.records.specs.Reading.{RowRead, row_in}
 use Rattle.calls.specs.Stores.{Held}
-use Rattle.calls.specs.Sheets.{Filling, row_added, not_added}
+use Rattle.calls.specs.Sheets.{Filling, row_added}
 use Rattle.calls.specs.Views.{Orderly}
 use Rattle.calls.specs.Exact.{AddIsExact}
 use Rattle.calls.proofs.Bytes.{RowTold, row_told}
@@ -27,5 +27,4 @@ by_row K f h o bs option.None e told = refused K f h bs option.None e NotDue (λ
 
 pub add_exact : AddIsExact
 add_exact K f h bs o =
-    subst (λ (z : Bool). Exactly K f h bs (cond z (row_added K f h (row_in bs)) (not_added f h StoresShort)))
-    (sym (enough_holds h o.enough)) (by_row K f h o bs (row_in bs) refl (row_told bs))
+    rw (enough_holds h o.enough) (by_row K f h o bs (row_in bs) refl (row_told bs))

@@ -1,5 +1,5 @@
 -- A label row is granted exactly as the subject has it (`label_exact`).
-use Rattle.std.proofs.Common.{◌≡◌, ℕ, ◌+◌, ◌<◌, Bool, true, false, cond, ltb, List, [], ◌∷◌, ◌++◌, take, set, Ok, sym, refl, ap, ◌∙◌, subst, arith, ltb-false, ltb-true}
+use Rattle.std.proofs.Common.{◌≡◌, ℕ, ◌+◌, ◌<◌, Bool, true, false, cond, ltb, List, [], ◌∷◌, ◌++◌, take, set, Ok, refl, ap, ◌∙◌, arith, ltb-false, ltb-true}
 use mathlib.Core.Option.{Option, none, some}
 use borrow.Author.Tests.{both_ways}
 use Rattle.std.proofs.lemmas.List.{take_more_set}
@@ -13,16 +13,14 @@ use Rattle.meaning.specs.Mixes as subject
 use Rattle.calls.specs.Stores.{Held, with_labels}
 use Rattle.calls.specs.Sheets.{Filling, one_label, label_added, row_added, not_added}
 use Rattle.calls.specs.Views.{Orderly, plain_in, read_draft}
-use Rattle.calls.proofs.Truth.{clash}
 use Rattle.calls.proofs.Bytes.{RowTold}
-use Rattle.calls.proofs.OneMore.{no_front}
 use Rattle.calls.proofs.Enough.{label_kept}
 use Rattle.calls.proofs.Filled.{none_passed, codes_in, no_terms, no_constraints_yet}
 use Rattle.calls.proofs.AddCases.{Exactly, refused}
 
 -- a code that is known has a value
 valued : (o : Option ℕ) → has_value o ≡ true → (x : ℕ) × (o ≡ some x)
-valued none e = clash e
+valued none e = absurd cc
 valued (some x) e = (x, refl)
 
 module _ (K : ℕ → Option ℕ) (f : Filling) (h : Held) (o : Orderly f h) (bs : List ℕ) where
@@ -34,8 +32,6 @@ module _ (K : ℕ → Option ℕ) (f : Filling) (h : Held) (o : Orderly f h) (bs
       (c : ℕ) → f.labels_in < f.labels →
       take (f.labels_in + 1) (stored c).labels ≡ take f.labels_in h.labels ++ (c ∷ [])
   more c l =
-      let p = o.few_names in
-      let q = o.enough.labels in
       take_more_set h.labels f.labels_in c (omega arith)
 
   -- the draft has one code more
@@ -43,39 +39,19 @@ module _ (K : ℕ → Option ℕ) (f : Filling) (h : Held) (o : Orderly f h) (bs
       (c : ℕ) → f.labels_in < f.labels →
       drafted (read_draft f h) (with_code (read_draft f h).sheet c) ≡ read_draft (one_label f) (stored c)
   draft_is c l =
-      λ i.
-      record {
-        labels = f.labels;
-        terms = f.terms;
-        constraints = f.constraints;
-        sheet =
-            record {
-              codes = sym (more c l) i;
-              free = f.free;
-              rows = (read_draft f h).sheet.rows;
-              constraints = (read_draft f h).sheet.constraints;
-            };
-      }
+      cc (more c l)
 
   -- all stays in order: there are neither terms nor constraints yet
   orderly : (c : ℕ) → f.labels_in < f.labels → Orderly (one_label f) (stored c)
   orderly c l =
       let et = no_terms f h o l in
       let ec = no_constraints_yet f h o l in
-      record {
-        enough = label_kept h f.labels_in c o.enough;
-        few_names = o.few_names;
-        few_terms = o.few_terms;
-        few_constraints = o.few_constraints;
-        labels_due = omega arith;
-        terms_due = o.terms_due;
-        constraints_due = o.constraints_due;
-        labels_first = λ m. absurd (omega arith);
-        terms_first = λ m. absurd (omega arith);
-        passed =
-            none_passed (plain_in (one_label f) (stored c)) (no_front f.terms_in h.terms et)
-            (no_front f.constraints_in h.facts ec);
-      }
+      search (
+        arith,
+        label_kept h f.labels_in c o.enough,
+        none_passed (plain_in (one_label f) (stored c)) (ap (λ (k : ℕ). take k h.terms) et)
+            (ap (λ (k : ℕ). take k h.facts) ec),
+      )
 
   -- the subject grants it
   grants :
@@ -84,16 +60,8 @@ module _ (K : ℕ → Option ℕ) (f : Filling) (h : Held) (o : Orderly f h) (bs
   grants c l told ek =
       let v = valued (K c) ek in
       let ec = told.5 in
-      subst
-      (λ (b : List ℕ).
-      Grants K (filling (read_draft f h)) (subject.add b) (filling (read_draft (one_label f) (stored c))))
-      (sym told.4)
-      (subst
-      (λ (D : Draft).
-      Grants K (filling (read_draft f h)) (subject.add (76 ∷ 66 ∷ told.0 ∷ told.1 ∷ told.2 ∷ told.3 ∷ []))
-      (filling D))
-      (ap (λ (x : ℕ). drafted (read_draft f h) (with_code (read_draft f h).sheet x)) ec ∙ draft_is c l)
-      (label_row told.0 told.1 told.2 told.3 (omega (arith, codes_in f h o)) (ap K ec ∙ v.1)))
+      rw (told.4, ← draft_is c l, ← ec)
+      (label_row {D = read_draft f h} told.0 told.1 told.2 told.3 (omega (arith, codes_in f h o)) (ap K ec ∙ v.1))
 
   by_known :
       (c : ℕ) → row_in bs ≡ option.Some (row.Label c) → RowTold bs (option.Some (row.Label c)) → f.labels_in < f.labels → (z : Bool) →
@@ -116,8 +84,4 @@ module _ (K : ℕ → Option ℕ) (f : Filling) (h : Held) (o : Orderly f h) (bs
       by_due true q = by_known c e told (ltb-true _ _ q) (known_by K c) refl
       by_due false q =
           refused K f h bs (option.Some (row.Label c)) e NotDue
-          (λ p.
-          (let l = ltb-false f.labels_in f.labels q in
-          let m = p.0 in
-          let n = codes_in f h o in
-          omega arith))
+          (λ p. omega (arith, ltb-false _ _ q, p.0, codes_in f h o))

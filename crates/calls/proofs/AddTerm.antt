@@ -3,13 +3,13 @@ use Rattle.std.proofs.Common.{◌≡◌, ℕ, ◌+◌, ◌<◌, ◌≤◌, Bool,
 use mathlib.Core.Option.{Option, some}
 use borrow.Author.Tests.{both_ways}
 use lib.ListN.{get_elem?}
-use Rattle.std.proofs.lemmas.List.{take_more_set, take_at, take-append-le}
+use Rattle.std.proofs.lemmas.List.{map_push, take_more_set, take_at, take-append-le}
 use Rattle.records.specs.declared.rows.TermRow.{TermRow}
 use Rattle.records.specs.declared.refusal.Refusal.TheVariants.{NotDue, IllTerm}
 use Rattle.std.specs.declared.option.Option.TheVariants as option
 use Rattle.records.specs.declared.record.RowRecord.TheVariants as row
 use Rattle.records.specs.Reading.{row_in}
-use Rattle.meaning.specs.Terms.{names, OpFits}
+use Rattle.meaning.specs.Terms.{names}
 use Rattle.meaning.specs.Mixes.{Draft, drafted, with_row, filling, Grants, term_row}
 use Rattle.meaning.specs.Mixes as subject
 use Rattle.calls.specs.Reading.{read_row, read_fact, read_sheet, RowFits}
@@ -21,7 +21,7 @@ use Rattle.calls.specs.Views.{Orderly, plain_in, read_draft}
 use Rattle.calls.proofs.Lookups.{below}
 use Rattle.calls.proofs.Bytes.{RowTold, term_bytes}
 use Rattle.calls.proofs.RowBytes.{row_written, row_refits}
-use Rattle.calls.proofs.OneMore.{map_push, last_or_before, no_front}
+use Rattle.meaning.proofs.Lookups.{last_or_before}
 use Rattle.calls.proofs.Enough.{term_kept}
 use Rattle.calls.proofs.Filled.{codes_in, rows_in, plain_rows, names_in, no_constraints}
 use Rattle.calls.proofs.Granted.{granted}
@@ -34,7 +34,7 @@ rows_more :
     row_ok rows n (length rows) r ≡ true →
     (t : ℕ) (x : TermRow) → get_elem? (rows ++ (r ∷ [])) t ≡ some x →
     row_ok (take t (rows ++ (r ∷ []))) n t x ≡ true
-rows_more rows r n old new t x e = go (last_or_before rows r x t e)
+rows_more rows r n old new t x e = go (last_or_before rows r t x e)
   where
     go :
         (get_elem? rows t ≡ some x) ⊎ ((t ≡ length rows) × (r ≡ x)) →
@@ -60,13 +60,11 @@ module _ (K : ℕ → Option ℕ) (f : Filling) (h : Held) (o : Orderly f h) (bs
 
   more : (r : TermRow) → f.terms_in < f.terms → take (f.terms_in + 1) (stored r).terms ≡ before ++ (r ∷ [])
   more r l =
-      let p = o.few_terms in
-      let q = o.enough.terms in
       take_more_set h.terms f.terms_in r (omega arith)
 
   -- there are no constraints yet, so that none is read anew
   none_yet : f.terms_in < f.terms → take f.constraints_in h.facts ≡ []
-  none_yet l = no_front f.constraints_in h.facts (no_constraints f h o l)
+  none_yet l = ap (λ (k : ℕ). take k h.facts) (no_constraints f h o l)
 
   read_none :
       f.terms_in < f.terms → (rows rows' : List TermRow) →
@@ -79,21 +77,11 @@ module _ (K : ℕ → Option ℕ) (f : Filling) (h : Held) (o : Orderly f h) (bs
       (r : TermRow) → f.terms_in < f.terms →
       drafted (read_draft f h) (with_row (read_draft f h).sheet (read_row r)) ≡ read_draft (one_term f) (stored r)
   draft_is r l =
-      let er = sym (ap (map read_row) (more r l) ∙ map_push read_row before r) in
-      let ec = read_none l before (take (f.terms_in + 1) (stored r).terms) in
-      λ i.
-      record {
-        labels = f.labels;
-        terms = f.terms;
-        constraints = f.constraints;
-        sheet =
-            record {
-              codes = (read_draft f h).sheet.codes;
-              free = f.free;
-              rows = er i;
-              constraints = ec i;
-            };
-      }
+      cc (
+        ap (map read_row) (more r l),
+        map_push read_row before r,
+        read_none l before (take (f.terms_in + 1) (stored r).terms),
+      )
 
   -- each row passed as it came
   passed :
@@ -121,18 +109,7 @@ module _ (K : ℕ → Option ℕ) (f : Filling) (h : Held) (o : Orderly f h) (bs
       row_ok before (names (read_sheet (plain_in f h))) f.terms_in r ≡ true → Orderly (one_term f) (stored r)
   orderly r el l e =
       let ec = no_constraints f h o l in
-      record {
-        enough = term_kept h f.terms_in r o.enough;
-        few_names = o.few_names;
-        few_terms = o.few_terms;
-        few_constraints = o.few_constraints;
-        labels_due = o.labels_due;
-        terms_due = omega arith;
-        constraints_due = o.constraints_due;
-        labels_first = λ m. el;
-        terms_first = λ m. absurd (omega arith);
-        passed = passed r l e;
-      }
+      search (arith, term_kept h f.terms_in r o.enough, passed r l e)
 
   -- the subject grants it
   grants :
@@ -140,18 +117,12 @@ module _ (K : ℕ → Option ℕ) (f : Filling) (h : Held) (o : Orderly f h) (bs
       RowFits (plain_in f h) f.terms_in r →
       Grants K (filling (read_draft f h)) (subject.add bs) (filling (read_draft (one_term f) (stored r)))
   grants r el l told b =
-      subst
-      (λ (x : List ℕ).
-      Grants K (filling (read_draft f h)) (subject.add x) (filling (read_draft (one_term f) (stored r))))
-      (row_written (read_row r) (told ∙ ap (λ (x : TermRow). 84 ∷ 77 ∷ term_bytes x) (sym b.written)))
-      (subst
-      (λ (D : Draft).
-      Grants K (filling (read_draft f h)) (subject.add (84 ∷ 77 ∷ subject.row_bytes (read_row r))) (filling D))
-      (draft_is r l)
-      (term_row (read_row r) (codes_in f h o ∙ el) (omega (arith, rows_in f h o)) b.low b.high
-      (subst
-      (λ (t : ℕ). OpFits (read_draft f h).sheet.rows (names (read_draft f h).sheet) t r.arity (read_row r).op)
-      (sym (rows_in f h o)) b.fits)))
+      rw (
+        ← row_written (read_row r) (told ∙ ap (λ (x : TermRow). 84 ∷ 77 ∷ term_bytes x) (sym b.written)),
+        ← draft_is r l,
+      )
+      (term_row {D = read_draft f h} (read_row r) (codes_in f h o ∙ el) (omega (arith, rows_in f h o)) b.low b.high
+      (rw (rows_in f h o) b.fits))
 
   -- a row that fits is one that the subject's case has
   fits_when :
@@ -160,10 +131,7 @@ module _ (K : ℕ → Option ℕ) (f : Filling) (h : Held) (o : Orderly f h) (bs
       let R = q.0 in
       let c = q.2 in
       subst (RowFits (plain_in f h) f.terms_in) q.1
-      (row_refits (plain_in f h) f.terms_in R c.low c.high
-      (subst
-      (λ (t : ℕ). OpFits (read_draft f h).sheet.rows (names (read_draft f h).sheet) t R.arity R.op)
-      (rows_in f h o) c.fits))
+      (row_refits (plain_in f h) f.terms_in R c.low c.high (rw (rows_in f h o) at c.fits))
 
   -- the rows that are in are as many as asked
   short : f.terms_in ≤ length before
@@ -192,11 +160,7 @@ module _ (K : ℕ → Option ℕ) (f : Filling) (h : Held) (o : Orderly f h) (bs
       by_test r e told el (ltb-true _ _ q) (row_ok before (f.labels + f.free) f.terms_in r) refl
   by_due r e told el false q =
       refused K f h bs (option.Some (row.Term r)) e NotDue
-      (λ c.
-      (let l = ltb-false f.terms_in f.terms q in
-      let m = c.2.due in
-      let n = rows_in f h o in
-      omega arith))
+      (λ c. omega (arith, ltb-false _ _ q, c.2.due, rows_in f h o))
 
   pub term_exact :
       (r : TermRow) → row_in bs ≡ option.Some (row.Term r) → RowTold bs (option.Some (row.Term r)) →
@@ -210,12 +174,6 @@ module _ (K : ℕ → Option ℕ) (f : Filling) (h : Held) (o : Orderly f h) (bs
           (cond (ltb f.terms_in f.terms) (term_added f h r) (not_added f h NotDue)))
       by_labels true q =
           refused K f h bs (option.Some (row.Term r)) e NotDue
-          (λ c.
-          (let l = ltb-true f.labels_in f.labels q in
-          let m = c.2.labels in
-          let n = codes_in f h o in
-          omega arith))
+          (λ c. omega (arith, ltb-true _ _ q, c.2.labels, codes_in f h o))
       by_labels false q =
-          let l = ltb-false f.labels_in f.labels q in
-          let m = o.labels_due in
-          by_due r e told (omega arith) (ltb f.terms_in f.terms) refl
+          by_due r e told (omega (arith, ltb-false _ _ q)) (ltb f.terms_in f.terms) refl

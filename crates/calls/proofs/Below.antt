@@ -1,113 +1,80 @@
--- The first number below n that fails a test: there is none exactly where all pass (`first_bad_none`), and it
+-- The first number below n that fails a test: there is none exactly where all pass (`none_bad`, `all_good`), and it
 -- is e exactly where e fails and all before it pass (`first_bad_least`, `first_bad_found`).
-use Rattle.std.proofs.Common.{◌≡◌, ℕ, zero, suc, ◌+◌, ◌<◌, Bool, true, false, cond, ◌↔◌, sym, refl, ap, ◌∙◌, subst, arith}
-use mathlib.Core.Option.{Option, none, some, some-injective}
-use native.Mathlib.Decide.{dec_lt}
+use Rattle.std.proofs.Common.{◌≡◌, ℕ, zero, suc, ◌+◌, ◌<◌, Bool, true, false, ◌⊎◌, refl, ap, ◌∙◌, subst, inl, inr, ⊎_elim, arith}
+use Rattle.std.proofs.lemmas.Bool.{and_from, and_parts, both_ways, cases_lt, false_from_ne_true}
+use borrow.Author.Count.{below_more}
+use mathlib.Core.Option.{Option, none, some}
 use Rattle.calls.specs.Models.{each_below, or_bad, first_bad}
-use Rattle.calls.proofs.Flags.{and_split, and_join}
-
--- nothing is not something
-pub no_clash : {X Y : Type 0} {x : X} → some x ≡ none → Y
-no_clash e = absurd (let z : ◌≡◌ {A = ℕ} 0 1 = cc in omega arith)
 
 -- e is the first number below n that fails the test
 abbrev pub Least : (ℕ → Bool) → ℕ → ℕ → Type 0
 Least f n e = (e < n) × (f e ≡ false) × ((d : ℕ) → d < e → f d ≡ true)
 
+-- where neither those before n nor n failed, and what failed where something did
+or_none : (o : Option ℕ) (b : Bool) (n : ℕ) → or_bad o b n ≡ none → (o ≡ none) × (b ≡ true)
+or_none none true n h = (refl, refl)
+or_none none false n h = absurd cc
+or_none (some d) b n h = absurd cc
+
+or_some :
+    (o : Option ℕ) (b : Bool) (n e : ℕ) → or_bad o b n ≡ some e →
+    (o ≡ some e) ⊎ ((o ≡ none) × (b ≡ false) × (n ≡ e))
+or_some none true n e h = absurd cc
+or_some none false n e h = inr (refl, refl, cc)
+or_some (some d) b n e h = inl h
+
 module _ (f : ℕ → Bool) where
+  -- one more number passes
+  more : (n : ℕ) → ((k : ℕ) → k < n → f k ≡ true) → f n ≡ true → (k : ℕ) → k < n + 1 → f k ≡ true
+  more n = below_more (λ (k : ℕ). f k ≡ true) n
+
   pub each_true : (n k : ℕ) → each_below f n ≡ true → k < n → f k ≡ true
   each_true zero k h l = absurd (omega arith)
   each_true (suc n) k h l =
-      let r = and_split (each_below f n) (f n) h in
-      go (dec_lt k n) (λ l'. each_true n k r.0 l') r.1
-    where
-      go : Dec (k < n) → (k < n → f k ≡ true) → f n ≡ true → f k ≡ true
-      go (yes l') below here = below l'
-      go (no m) below here = let q : n ≡ k = omega arith in subst (λ (x : ℕ). f x ≡ true) q here
+      let r = and_parts (each_below f n) (f n) h in
+      more n (λ d. each_true n d r.0) r.1 k (omega arith)
 
   pub true_each : (n : ℕ) → ((k : ℕ) → k < n → f k ≡ true) → each_below f n ≡ true
   true_each zero h = refl
   true_each (suc n) h =
-      and_join (each_below f n) (f n) (true_each n (λ k l. h k (omega arith))) (h n (omega arith))
-
-  pub each_exact : (n : ℕ) → (each_below f n ≡ true) ↔ ((k : ℕ) → k < n → f k ≡ true)
-  each_exact n = (λ h k l. each_true n k h l, true_each n)
+      and_from (each_below f n) (f n) (true_each n (λ k l. h k (omega arith))) (h n (omega arith))
 
   -- one turn of a loop in which all have passed so far
   pub each_more : (n : ℕ) → each_below f n ≡ true → f n ≡ true → each_below f (n + 1) ≡ true
-  each_more n h t = true_each (n + 1) (λ k l. go k l (dec_lt k n))
-    where
-      go : (k : ℕ) → k < n + 1 → Dec (k < n) → f k ≡ true
-      go k l (yes l') = each_true n k h l'
-      go k l (no m) = let q : n ≡ k = omega arith in subst (λ (x : ℕ). f x ≡ true) q t
+  each_more n h t = true_each (n + 1) (more n (λ k. each_true n k h) t)
 
   -- and one in which a number fails
   pub each_stop : (n k : ℕ) → k < n → f k ≡ false → each_below f n ≡ false
-  each_stop n k l b = go (each_below f n) refl
-    where
-      go : (t : Bool) → each_below f n ≡ t → t ≡ false
-      go true q = sym (each_true n k q l) ∙ b
-      go false q = refl
+  each_stop n k l b = false_from_ne_true _ (λ q. both_ways (f k) b (each_true n k q l))
 
   pub none_bad : (n k : ℕ) → first_bad f n ≡ none → k < n → f k ≡ true
   none_bad zero k h l = absurd (omega arith)
-  none_bad (suc n) k h l = go (λ d q l'. none_bad n d q l') (first_bad f n) refl h
-    where
-      here : (b : Bool) → f n ≡ b → cond b none (some n) ≡ none → f n ≡ true
-      here true q h = q
-      here false q h = no_clash h
-
-      at_dec : Dec (k < n) → f n ≡ true → ((d : ℕ) → d < n → f d ≡ true) → f k ≡ true
-      at_dec (yes l') t below = below k l'
-      at_dec (no m) t below = let q : n ≡ k = omega arith in subst (λ (x : ℕ). f x ≡ true) q t
-
-      go : ((d : ℕ) → first_bad f n ≡ none → d < n → f d ≡ true) →
-          (o : Option ℕ) → first_bad f n ≡ o → or_bad o (f n) n ≡ none → f k ≡ true
-      go ih (some d) q h = no_clash h
-      go ih none q h = at_dec (dec_lt k n) (here (f n) refl h) (λ d l'. ih d q l')
+  none_bad (suc n) k h l =
+      let r = or_none (first_bad f n) (f n) n h in
+      more n (λ d. none_bad n d r.0) r.1 k (omega arith)
 
   pub all_good : (n : ℕ) → ((k : ℕ) → k < n → f k ≡ true) → first_bad f n ≡ none
   all_good zero h = refl
   all_good (suc n) h = λ i. or_bad (all_good n (λ k l. h k (omega arith)) i) (h n (omega arith) i) n
 
-  pub first_bad_none : (n : ℕ) → (first_bad f n ≡ none) ↔ ((k : ℕ) → k < n → f k ≡ true)
-  first_bad_none n = (λ h k l. none_bad n k h l, all_good n)
-
   pub first_bad_least : (n e : ℕ) → first_bad f n ≡ some e → Least f n e
-  first_bad_least zero e h = no_clash (sym h)
-  first_bad_least (suc n) e h = go (first_bad_least n) (first_bad f n) refl h
-    where
-      here : (b : Bool) → f n ≡ b → first_bad f n ≡ none → cond b none (some n) ≡ some e → Least f (suc n) e
-      here true t q h = no_clash (sym h)
-      here false t q h =
-          let s : n ≡ e = some-injective _ _ h in
-          (omega arith, subst (λ (x : ℕ). f x ≡ false) s t, λ d l. none_bad n d q (omega arith))
-
-      go : ((d : ℕ) → first_bad f n ≡ some d → Least f n d) →
-          (o : Option ℕ) → first_bad f n ≡ o → or_bad o (f n) n ≡ some e → Least f (suc n) e
-      go ih (some d) q h = let r = ih e (q ∙ h) in (omega (arith, r.0), r.1, r.2)
-      go ih none q h = here (f n) refl q h
+  first_bad_least zero e h = absurd cc
+  first_bad_least (suc n) e h =
+      ⊎_elim (λ q. let r = first_bad_least n e q in (omega (arith, r.0), r.1, r.2))
+      (λ q. subst (Least f (suc n)) q.2 (omega arith, q.1, λ d. none_bad n d q.0))
+      (or_some (first_bad f n) (f n) n e h)
 
   pub first_bad_found : (n e : ℕ) → Least f n e → first_bad f n ≡ some e
   first_bad_found zero e (l, b, h) = absurd (omega arith)
-  first_bad_found (suc n) e (l, b, h) = go (dec_lt e n) (λ l'. first_bad_found n e (l', b, h))
-    where
-      go : Dec (e < n) → (e < n → first_bad f n ≡ some e) → or_bad (first_bad f n) (f n) n ≡ some e
-      go (yes l') ih = λ i. or_bad (ih l' i) (f n) n
-      go (no m) ih =
-          let s : e ≡ n = omega arith in
-          let t : f n ≡ false = subst (λ (x : ℕ). f x ≡ false) s b in
-          let g : first_bad f n ≡ none = all_good n (λ k k<n. h k (omega arith)) in
-          let p : or_bad (first_bad f n) (f n) n ≡ some n = λ i. or_bad (g i) (t i) n in
-          p ∙ ap (λ (x : ℕ). some x) (sym s)
+  first_bad_found (suc n) e (l, b, h) =
+      ⊎_elim (λ l'. λ i. or_bad (first_bad_found n e (l', b, h) i) (f n) n)
+      (λ m. let s : n ≡ e = omega arith in
+      (λ i. or_bad (all_good n (λ k k<n. h k (omega arith)) i) ((ap f s ∙ b) i) n) ∙ ap some s)
+      (cases_lt e n)
 
   -- one turn of a loop that has found none so far
   pub first_bad_more : (n : ℕ) → first_bad f n ≡ none → f n ≡ true → first_bad f (n + 1) ≡ none
-  first_bad_more n h t = all_good (n + 1) (λ k l. go k l (dec_lt k n))
-    where
-      go : (k : ℕ) → k < n + 1 → Dec (k < n) → f k ≡ true
-      go k l (yes l') = none_bad n k h l'
-      go k l (no m) = let q : n ≡ k = omega arith in subst (λ (x : ℕ). f x ≡ true) q t
+  first_bad_more n h t = all_good (n + 1) (more n (λ k. none_bad n k h) t)
 
   -- and that finds one
   pub first_bad_here : (m n : ℕ) → n < m → first_bad f n ≡ none → f n ≡ false → first_bad f m ≡ some n

@@ -1,5 +1,6 @@
 -- A step has a plan exactly where a rule of the calculus applies, with the same alternatives (`bridged`).
-use Rattle.std.proofs.Common.{◌≡◌, ℕ, ◌+◌, ◌≤◌, Bool, true, false, cond, ◌&&◌, eqb, List, [], ◌∷◌, ◌++◌, map, Some, None, Ok, Err, Option as Maybe, Result, sym, refl, ap, ◌∙◌, subst, ap₂, arith, eq-eqb, eqb-true}
+use Rattle.std.proofs.Common.{◌≡◌, ℕ, ◌+◌, ◌≤◌, Bool, true, false, cond, eqb, List, [], ◌∷◌, ◌++◌, map, Some, Ok, Result, sym, refl, ap, ◌∙◌, subst, ap₂, arith, eq-eqb, eqb-true}
+use Rattle.std.proofs.lemmas.Bool.{and_parts}
 use mathlib.Core.Option.{Option, some}
 use Rattle.std.specs.List.{AllByRecursion, slice_get}
 use Rattle.std.proofs.ByRecursion.{All-append}
@@ -7,7 +8,6 @@ use Rattle.records.specs.declared.rows.Fact.{Fact as FactRow}
 use Rattle.records.specs.declared.rows.Step.{Step}
 use Rattle.records.specs.declared.rule.Rule.{Rule as RuleName}
 use Rattle.records.specs.declared.refusal.Refusal.{Refusal}
-use Rattle.records.specs.declared.refusal.Refusal.TheVariants.{NoRule, NotOnBranch, NotMet}
 use Rattle.rules.specs.declared.cited.Alt.{Alt as AltRow}
 use Rattle.rules.specs.declared.cited.Cited.{Cited}
 use Rattle.rules.specs.declared.cited.Plan.{Plan}
@@ -15,7 +15,7 @@ use Rattle.rules.specs.Facts.{no_fact}
 use Rattle.rules.specs.Rules.{line_met}
 use Rattle.records.specs.Kinds.{rule_number, rule_of}
 use Rattle.rules.specs.Looked.{uses, untouched, looked, cited_by, zeros_kept}
-use Rattle.rules.specs.Looked.{plan_q, plan_p, plan_rule, planned}
+use Rattle.rules.specs.Looked.{planned}
 use Rattle.meaning.specs.Terms.{Fact, names}
 use Rattle.meaning.specs.Calculus.{Alt, Rule, At, alone, Cites, cites_none, cites_one, cites_two}
 use Rattle.calls.specs.Reading.{read_fact, write_fact, write_alt, read_alt, alt_facts, Plain, read_sheet, FactFits}
@@ -23,21 +23,17 @@ use Rattle.calls.specs.Reading.{Good}
 use Rattle.calls.specs.Passing.{alt_rows, Passes, second_of, From, from_none, from_one, from_twice, from_two}
 use Rattle.calls.specs.Bridge.{plan_alts, Fair, AppliesTo, Bridged}
 use Rattle.meaning.proofs.RuleFits.{Fits, rule_fits}
-use Rattle.calls.proofs.Truth.{clash, and_true, and_split}
-use Rattle.calls.proofs.Lookups.{unmap, remap, to_nth, of_nth, all_at}
+use Rattle.calls.proofs.Lookups.{unmap, remap, all_at, same_entry}
 use Rattle.calls.proofs.Numbers.{named, numbered}
 use Rattle.calls.proofs.Rows.{full}
 use Rattle.calls.proofs.Written.{few, alts_back, alts_kept, facts_up}
 use Rattle.calls.proofs.Complete.{complete}
+use Rattle.calls.proofs.Forking.{made}
 use Rattle.calls.proofs.Found.{found}
-
--- two plans that are both the answer are one
-same_plan : (y z : Plan) → ◌≡◌ {A = Result Plan Refusal} (Ok y) (Ok z) → y ≡ z
-same_plan y z h = cc
 
 -- a field that is zero, by its test
 zero_when : (b : Bool) (p : ℕ) → b ≡ false → untouched b p ≡ true → p ≡ 0
-zero_when true p e h = clash (sym e)
+zero_when true p e h = absurd cc
 zero_when false p e h = eqb-true p 0 h
 
 module _ (K : ℕ → Option ℕ) (P : Plain) (good : Good P) where
@@ -73,7 +69,7 @@ module _ (K : ℕ → Option ℕ) (P : Plain) (good : Good P) where
     row_there p f a =
         let r = unmap (read_fact P.rows) facts p f a.is in
         let b = all_at (FactFits P n) facts p r.0 fit r.1 in (
-          to_nth facts p r.0 r.1 ∙ ap Some (sym b.written ∙ ap write_fact r.2),
+          (same_entry facts p r.0).0 r.1 ∙ ap Some (sym b.written ∙ ap write_fact r.2),
           subst (λ (x : Fact). Fitting n x) r.2 b.fits,
         )
 
@@ -85,11 +81,7 @@ module _ (K : ℕ → Option ℕ) (P : Plain) (good : Good P) where
         line_met r (cites r x f g) ≡ true →
         plan_of x ≡ Ok (record { rule = r; cited = cites r x f g })
     make x r f g en hp hq ht hw m =
-        ap (plan_rule K P.codes P.rows facts x) (ap rule_of (sym en) ∙ named r)
-        ∙ ap (plan_p K P.codes P.rows facts r x) hp.0
-        ∙ ap (plan_q K P.codes P.rows r x f) hq.0
-        ∙ ap (λ (z : Bool). cond z (Ok (record { rule = r; cited = cites r x f g })) (Err NotMet))
-        (and_true (and_true hp.1 (and_true hq.1 (and_true ht hw))) m)
+        cc (ap rule_of (sym en) ∙ named r)
 
     look_none : (b : Bool) (p : ℕ) → b ≡ false → p ≡ 0 → Looks b p no_fact
     look_none b p e z = (ap (λ (c : Bool). looked c facts p) e, ap₂ untouched e z)
@@ -158,14 +150,14 @@ module _ (K : ℕ → Option ℕ) (P : Plain) (good : Good P) where
     at_read :
         (p : ℕ) (f : FactRow) (h : Fact) → slice_get facts p ≡ Some f → h ≡ read_fact P.rows f → At branch p h
     at_read p f h e q =
-        record { is = remap (read_fact P.rows) facts p f (of_nth facts p f e) ∙ ap some (sym q) }
+        record { is = remap (read_fact P.rows) facts p f ((same_entry facts p f).1 e) ∙ ap some (sym q) }
 
     sees : (b : Bool) (p : ℕ) (f : FactRow) → b ≡ true → looked b facts p ≡ Some f → slice_get facts p ≡ Some f
     sees true p f e h = h
-    sees false p f e h = clash e
+    sees false p f e h = absurd cc
 
     fits_seen : (b : Bool) (p : ℕ) (f : FactRow) → looked b facts p ≡ Some f → b ≡ true → FactFits P n f
-    fits_seen b p f h e = all_at (FactFits P n) facts p f fit (of_nth facts p f (sees b p f e h))
+    fits_seen b p f h e = all_at (FactFits P n) facts p f fit ((same_entry facts p f).1 (sees b p f e h))
 
     -- the fields p and q cite what the rule's facts come from
     citing :
@@ -173,10 +165,7 @@ module _ (K : ℕ → Option ℕ) (P : Plain) (good : Good P) where
         Looks (uses r).p p f → Looks (uses r).q q g →
         From r (eqb p q) (read_fact P.rows f) (read_fact P.rows g) ps → Cites branch (rule_number r) p q ps
     citing r p q f g ps hp hq (from_none up uq) =
-        let zp = sym (zero_when (uses r).p p up hp.1) in
-        let zq = sym (zero_when (uses r).q q uq hq.1) in
-        subst (λ (i : ℕ). Cites branch (rule_number r) i q []) zp
-        (subst (λ (i : ℕ). Cites branch (rule_number r) 0 i []) zq cites_none)
+        rw (zero_when (uses r).p p up hp.1, zero_when (uses r).q q uq hq.1) cites_none
     citing r p q f g ps hp hq (from_one {h = h} up uq ne e) =
         let zq = sym (zero_when (uses r).q q uq hq.1) in
         subst (λ (i : ℕ). Cites branch (rule_number r) p i (h ∷ [])) (ap (λ (z : Bool). cond z p 0) ne ∙ zq)
@@ -195,62 +184,24 @@ module _ (K : ℕ → Option ℕ) (P : Plain) (good : Good P) where
     SomeApply x = (alts : List Alt) × AppliesTo K P facts n x alts
 
     applies : (x : Step) (y : Plan) → plan_of x ≡ Ok y → SomeApply x
-    applies x y h = by_rule (rule_of x.rule) refl h
-      where
-        wrong : (e : Refusal) → ◌≡◌ {A = Result Plan Refusal} (Err e) (Ok y) → SomeApply x
-        wrong e h = absurd (let z : ◌≡◌ {A = ℕ} 0 1 = cc in omega arith)
-
-        by_met :
-            (r : RuleName) (f g : FactRow) → rule_of x.rule ≡ Some r →
-            looked (uses r).p facts x.p ≡ Some f → looked (uses r).q facts x.q ≡ Some g →
-            (zeros_kept r x && line_met r (cites r x f g)) ≡ true → SomeApply x
-        by_met r f g er ep eq h =
-            let m = and_split (zeros_kept r x) _ h in
-            let hp = and_split (untouched (uses r).p x.p) _ m.0 in
-            let hq = and_split (untouched (uses r).q x.q) _ hp.1 in
-            let ht = and_split (untouched (uses r).t x.t) _ hq.1 in
-            let fp = fits_seen (uses r).p x.p f ep in
-            let fq = fits_seen (uses r).q x.q g eq in
-            let v = found K P good r n (eqb x.p x.q) f g x.t x.w fp fq ht.0 ht.1 m.1 in
-            let en = numbered x.rule r er in
-            let c = citing r x.p x.q f g v.cited (ep, hp.0) (eq, hq.0) v.from in (
-              v.alts,
-              record {
-                cited = v.cited;
-                rule = subst (λ (i : ℕ). Rule K (read_sheet P) n i x.t x.w v.cited v.alts) en
-                    v.rule;
-                cites = subst (λ (i : ℕ). Cites branch i x.p x.q v.cited) en c;
-              },
-            )
-
-        by_test :
-            (z : Bool) (r : RuleName) (f g : FactRow) → (z ≡ true → SomeApply x) →
-            ◌≡◌ {A = Result Plan Refusal}
-            (cond z (Ok (record { rule = r; cited = cites r x f g })) (Err NotMet)) (Ok y) →
-            SomeApply x
-        by_test true r f g k h = k refl
-        by_test false r f g k h = wrong NotMet h
-
-        by_q :
-            (r : RuleName) (f : FactRow) (o : Maybe FactRow) → rule_of x.rule ≡ Some r →
-            looked (uses r).p facts x.p ≡ Some f → looked (uses r).q facts x.q ≡ o →
-            plan_q K P.codes P.rows r x f o ≡ Ok y → SomeApply x
-        by_q r f None er ep eq h = wrong (NotOnBranch x.q) h
-        by_q r f (Some g) er ep eq h =
-            by_test (zeros_kept r x && line_met r (cites r x f g)) r f g (by_met r f g er ep eq) h
-
-        by_p :
-            (r : RuleName) (o : Maybe FactRow) → rule_of x.rule ≡ Some r →
-            looked (uses r).p facts x.p ≡ o →
-            plan_p K P.codes P.rows facts r x o ≡ Ok y → SomeApply x
-        by_p r None er ep h = wrong (NotOnBranch x.p) h
-        by_p r (Some f) er ep h = by_q r f (looked (uses r).q facts x.q) er ep refl h
-
-        by_rule :
-            (o : Maybe RuleName) → rule_of x.rule ≡ o → plan_rule K P.codes P.rows facts x o ≡ Ok y →
-            SomeApply x
-        by_rule None er h = wrong (NoRule x.rule) h
-        by_rule (Some r) er h = by_p r (looked (uses r).p facts x.p) er refl h
+    applies x y h =
+        let w = made K P.codes P.rows facts x y h in
+        let m = and_parts (zeros_kept y.rule x) _ w.met in
+        let hp = and_parts (untouched (uses y.rule).p x.p) _ m.0 in
+        let hq = and_parts (untouched (uses y.rule).q x.q) _ hp.1 in
+        let ht = and_parts (untouched (uses y.rule).t x.t) _ hq.1 in
+        let fp = fits_seen (uses y.rule).p x.p w.f w.at_p in
+        let fq = fits_seen (uses y.rule).q x.q w.g w.at_q in
+        let v = found K P good y.rule n (eqb x.p x.q) w.f w.g x.t x.w fp fq ht.0 ht.1 m.1 in
+        let en = numbered x.rule y.rule w.named in
+        let c = citing y.rule x.p x.q w.f w.g v.cited (w.at_p, hp.0) (w.at_q, hq.0) v.from in (
+          v.alts,
+          record {
+            cited = v.cited;
+            rule = subst (λ (i : ℕ). Rule K (read_sheet P) n i x.t x.w v.cited v.alts) en v.rule;
+            cites = subst (λ (i : ℕ). Cites branch i x.p x.q v.cited) en c;
+          },
+        )
 
     -- ── the two together ───────────────────────────────────────────────────
 
@@ -261,7 +212,7 @@ module _ (K : ℕ → Option ℕ) (P : Plain) (good : Good P) where
     met_applies l x y h =
         let a = applies x y h in
         let m = met l x a.0 a.1 in
-        let e = sym m.2 ∙ ap (plan_alts P n) (same_plan m.0 y (sym m.1 ∙ h)) in
+        let e = sym m.2 ∙ ap (plan_alts P n) (cc (m.1, h)) in
         subst (λ (alts : List Alt). AppliesTo K P facts n x alts) e a.1
 
     one_list :
@@ -270,7 +221,7 @@ module _ (K : ℕ → Option ℕ) (P : Plain) (good : Good P) where
     one_list l x alts alts' a a' =
         let m = met l x alts a in
         let m' = met l x alts' a' in
-        sym m.2 ∙ ap (plan_alts P n) (same_plan m.0 m'.0 (sym m.1 ∙ m'.1)) ∙ m'.2
+        sym m.2 ∙ ap (plan_alts P n) (cc (m.1, m'.1)) ∙ m'.2
 
     -- each alternative leaves a branch that fits again
     stays_in :
@@ -294,7 +245,7 @@ module _ (K : ℕ → Option ℕ) (P : Plain) (good : Good P) where
     stays_fair l x y h =
         let a = applies x y h in
         let m = met l x a.0 a.1 in
-        let e = same_plan m.0 y (sym m.1 ∙ h) in
+        let e : m.0 ≡ y = cc (m.1, h) in
         stays_in l _ (subst (λ (z : Plan). Kept (alt_rows z.rule z.cited n)) e m.3)
 
 pub bridged : Bridged

@@ -1,5 +1,6 @@
 -- What is read from bytes says which bytes they are (`header_told`, `row_told`).
-use Rattle.std.proofs.Common.{◌≡◌, ℕ, zero, suc, Bool, true, false, cond, eqb, List, [], ◌∷◌, length, Some, None, Option, refl, ap, ◌∙◌, arith, eqb-true}
+use Rattle.std.proofs.Common.{◌≡◌, ℕ, zero, suc, Bool, true, false, cond, eqb, List, [], ◌∷◌, length, Some, None, Option, refl, ap, arith, eqb-true}
+use Rattle.std.proofs.lemmas.Bool.{and_parts}
 use Rattle.records.specs.declared.rows.Header.{Header}
 use Rattle.records.specs.declared.rows.TermRow.{TermRow}
 use Rattle.records.specs.declared.rows.ConstraintRow.{ConstraintRow}
@@ -18,7 +19,6 @@ use Rattle.records.specs.Reading.{
   header_in,
   row_in,
 }
-use Rattle.calls.proofs.Truth.{and_split}
 
 -- ── the records as bytes, their marks apart ────────────────────────────────
 
@@ -46,16 +46,15 @@ listed (suc k) [] e = absurd (omega arith)
 listed (suc k) (x ∷ bs) e = ap (λ (l : List ℕ). x ∷ l) (listed k bs (omega arith))
 
 -- a record with these letters and this length
-spelt :
+pub spelt :
     (k x y : ℕ) (bs : List ℕ) → whole (suc (suc k)) x y bs ≡ true →
     bs ≡ x ∷ y ∷ places k (λ i. byte bs (suc (suc i)))
 spelt k x y bs e =
-    let p = and_split (eqb (length bs) (suc (suc k))) (marked x y bs) e in
-    let q = and_split (eqb (byte bs 0) x) (eqb (byte bs 1) y) p.1 in
+    let p = and_parts (eqb (length bs) (suc (suc k))) (marked x y bs) e in
+    let q = and_parts (eqb (byte bs 0) x) (eqb (byte bs 1) y) p.1 in
     let ex = eqb-true (byte bs 0) x q.0 in
     let ey = eqb-true (byte bs 1) y q.1 in
-    listed (suc (suc k)) bs (eqb-true _ _ p.0)
-    ∙ (λ i. ex i ∷ ey i ∷ places k (λ j. byte bs (suc (suc j))))
+    cc (listed (suc (suc k)) bs (eqb-true _ _ p.0))
 
 -- ── what is told ───────────────────────────────────────────────────────────
 

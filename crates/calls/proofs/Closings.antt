@@ -1,12 +1,11 @@
 -- A rule without alternatives closes the branch: the latest fork is resumed, which is never refused, or the
 -- trial is closed (`closes`).
-use Rattle.std.proofs.Common.{◌≡◌, ℕ, ◌+◌, ◌-◌, ◌<◌, ◌≤◌, Bool, true, false, cond, ltb, List, [], ◌∷◌, ◌++◌, map, length, take, set, Some, None, Ok, Err, Option as Maybe, Result, sym, refl, ap, ◌∙◌, subst, arith, length-set, le-ltb}
+use Rattle.std.proofs.Common.{◌≡◌, ℕ, ◌+◌, ◌-◌, ◌<◌, ◌≤◌, Bool, true, false, cond, ltb, List, [], ◌∷◌, ◌++◌, map, take, set, Some, None, Ok, Err, Option as Maybe, sym, refl, ap, ◌∙◌, subst, arith, length-set, le-ltb}
 use mathlib.Core.Option.{Option}
 use Rattle.std.specs.List.{slice_get}
 use Rattle.std.proofs.lemmas.List.{take_more_set, take-set, take-take}
 use Rattle.records.specs.declared.rows.Fact.{Fact as FactRow}
 use Rattle.records.specs.declared.rows.Step.{Step}
-use Rattle.records.specs.declared.refusal.Refusal.{Refusal}
 use Rattle.records.specs.declared.refusal.Refusal.TheVariants.{NoRoom}
 use Rattle.records.specs.declared.refusal.Room.TheVariants as over
 use Rattle.records.specs.declared.verdict.Verdict.TheVariants as verdict
@@ -67,7 +66,7 @@ module _
 
   always_room : Room (branch_of t h) (open_forks t h) (plan_alts (plain_of t h) t.names y)
   always_room =
-      subst (λ (z : List Alt). Room (branch_of t h) (open_forks t h) z) (sym no_alts)
+      rw no_alts
       (record { names_fit = tt; facts_fit = tt; forks_fit = λ l. absurd (omega arith) })
 
   back_to :
@@ -78,20 +77,18 @@ module _
   -- the latest fork f is resumed
   module _ (f : ForkRow) (en : slice_get (forks_of t h) (t.forks - 1) ≡ Some f) where
     forks_split : forks_of t h ≡ take (t.forks - 1) h.forks ++ (f ∷ [])
-    forks_split =
-        let big : 64 ≤ length h.forks = w.enough.forks in
-        let low : t.forks ≤ 64 = w.few_forks in last_split h.forks t.forks f (omega arith) en
+    forks_split = last_split h.forks t.forks f (omega arith) en
 
     below :
         Stacked (plain_of t h) (branch_facts t h) t.constraints f.facts (take (t.forks - 1) h.forks)
     below =
         (top (plain_of t h) t.constraints (branch_facts t h) t.facts (forks_of t h)
-        (take (t.forks - 1) h.forks) f forks_split (live t h w un room).stacked).0
+        (take (t.forks - 1) h.forks) f forks_split (live t h w un).stacked).0
 
     fit : ForkFits (plain_of t h) (branch_facts t h) t.constraints t.facts f
     fit =
         (top (plain_of t h) t.constraints (branch_facts t h) t.facts (forks_of t h)
-        (take (t.forks - 1) h.forks) f forks_split (live t h w un room).stacked).1
+        (take (t.forks - 1) h.forks) f forks_split (live t h w un).stacked).1
 
     abbrev a : AltRow
     a = alternative_of f.rule (cited_at (plain_of t h) (branch_facts t h) f) f.names f.next
@@ -99,12 +96,12 @@ module _
     few_facts_then : f.facts + size_of a ≤ 1024
     few_facts_then =
         next_few_facts (plain_of t h) t.constraints t.facts (branch_facts t h)
-        (take (t.forks - 1) h.forks) f (facts_long t h w un room) below fit
+        (take (t.forks - 1) h.forks) f (facts_long t h w) below fit
 
     few_names_then : f.names + a.fresh ≤ 64
     few_names_then =
         next_few_names (plain_of t h) t.constraints t.facts (branch_facts t h)
-        (take (t.forks - 1) h.forks) f (facts_long t h w un room) below fit
+        (take (t.forks - 1) h.forks) f (facts_long t h w) below fit
 
     abbrev back : Outcome
     back = outcome.Resumes (grown f.facts f.names a) (onward f) (forks_left t.forks f)
@@ -126,8 +123,6 @@ module _
         take (cond b t.forks (t.forks - 1)) (set h.forks (t.forks - 1) (onward f))
         ≡ cond b (take (t.forks - 1) h.forks ++ (onward f ∷ [])) (take (t.forks - 1) h.forks)
     forks_then true =
-        let big : 64 ≤ length h.forks = w.enough.forks in
-        let low : t.forks ≤ 64 = w.few_forks in
         let one : 1 ≤ t.forks = has_last t.forks h.forks f en in
         let e : t.forks ≡ t.forks - 1 + 1 = omega arith in
         ap (λ (k : ℕ). take k (set h.forks (t.forks - 1) (onward f))) e
@@ -136,15 +131,14 @@ module _
 
     few_forks_then : (b : Bool) → cond b t.forks (t.forks - 1) ≤ 64
     few_forks_then true = w.few_forks
-    few_forks_then false = let low : t.forks ≤ 64 = w.few_forks in omega arith
+    few_forks_then false = omega arith
 
     resumes : Right K t h x (resumed t (rows_of t h) (branch_facts t h) f)
     resumes =
-        let big : 1024 ≤ length h.facts = w.enough.facts in
         let l = few_facts_then in
         let lands =
         resume_lands (plain_of t h) t.constraints t.facts (branch_facts t h)
-        (take (t.forks - 1) h.forks) f (facts_long t h w un room) below fit
+        (take (t.forks - 1) h.forks) f (facts_long t h w) below fit
         (ltb (onward f).next (alternatives_of f.rule)) refl in
         let follows =
         lands_follow t h w un room (f.facts + size_of a) (f.names + a.fresh) (forks_left t.forks f)
@@ -155,7 +149,7 @@ module _
         ∙ ap (λ (z : List FactRow). z ++ facts_of a) (sym (take-take f.facts t.facts h.facts fit.front)))
         (forks_then (ltb (onward f).next (alternatives_of f.rule)))
         (few_forks_then (ltb (onward f).next (alternatives_of f.rule))) lands in
-        subst (λ (z : Result Outcome Refusal). Right K t h x z) (sym resumed_is)
+        rw resumed_is
         (granted t h w un room K x y ep back always_room
         (subst
         (λ (z : State). Follows t h (taken t h back).trial (taken t h back).stores z)
@@ -167,8 +161,6 @@ module _
       (z : Maybe ForkRow) → slice_get (forks_of t h) (t.forks - 1) ≡ z →
       Right K t h x (closing t (rows_of t h) (branch_facts t h) z)
   closes None en =
-      let big : 64 ≤ length h.forks = w.enough.forks in
-      let low : t.forks ≤ 64 = w.few_forks in
       granted t h w un room K x y ep outcome.Closes always_room
       (closes_follow t h w un room _
       (ap (λ (z : List ForkRow). resume (read_forks (plain_of t h) (branch_facts t h) z []))

@@ -1,7 +1,9 @@
 -- Where a rule of the calculus applies, the tests on plain records pass with its alternatives (`complete`).
-use Rattle.std.proofs.Common.{◌≡◌, ℕ, suc, ◌+◌, ◌-◌, ◌≤◌, Bool, true, false, ◌&&◌, ◌||◌, eqb, List, [], ◌∷◌, ◌++◌, map, length, sym, refl, ap, ◌∙◌, subst, ap₂, ⊎_elim, arith, length-append, lt-ltb, eq-eqb, le-leb}
+use Rattle.std.proofs.Common.{◌≡◌, ℕ, suc, ◌+◌, ◌-◌, ◌≤◌, Bool, true, false, ◌&&◌, ◌||◌, List, [], ◌∷◌, ◌++◌, map, length, sym, refl, ap, ◌∙◌, subst, ap₂, ⊎_elim, arith, length-append, lt-ltb, eq-eqb, le-leb}
+use Rattle.std.proofs.lemmas.Bool.{and_from, or_left, or_right}
 use mathlib.Core.Option.{Option}
 use Rattle.std.specs.List.{AllByRecursion}
+use Rattle.std.proofs.lemmas.List.{append-nil}
 use Rattle.records.specs.declared.rows.Fact.{Fact as FactRow}
 use Rattle.records.specs.declared.rows.TermRow.{TermRow}
 use Rattle.records.specs.declared.rule.Rule.{Rule as RuleName}
@@ -14,7 +16,7 @@ use Rattle.rules.specs.Facts.{in_fact, one_of, two_of, equalities_of}
 use Rattle.rules.specs.Rules.{line_met}
 use Rattle.records.specs.Kinds.{rule_number}
 use Rattle.rules.specs.Looked.{uses, untouched, row_at, labels_for}
-use Rattle.meaning.specs.Terms.{Op, member, equal, same, Fact, Is, Arity}
+use Rattle.meaning.specs.Terms.{Op, member, Fact, Is, Arity}
 use Rattle.meaning.specs.Calculus.{Alt, up_from, equalities, Rule, inter_up, inter_down, union_up, union_down}
 use Rattle.meaning.specs.Calculus.{diff_up, diff_down, single_up, single_down, empty_unsat, set_diseq}
 use Rattle.meaning.specs.Calculus.{eq_unsat_names, eq_unsat_terms, eq_unsat_both, transp_up, transp_down}
@@ -25,8 +27,8 @@ use Rattle.meaning.specs.Calculus.{label_unsat, label_same}
 use Rattle.calls.specs.Reading.{names_of, write_op, write_alt, Plain, read_sheet, Good}
 use Rattle.calls.specs.Passing.{cites_p, cites_q, alt_rows, Passes, first_of, second_of, Twice}
 use Rattle.meaning.proofs.RuleFits.{Fits, of, both, fit}
-use Rattle.calls.proofs.Truth.{eqb_self, and_true, or_left, or_right}
-use Rattle.calls.proofs.Tuples.{reversed_is, joined_is, append_nil, rest_is, at_is, put_is, fresh_is}
+use Rattle.calls.proofs.Truth.{eqb_self}
+use Rattle.calls.proofs.Tuples.{reversed_is, joined_is, rest_is, at_is, put_is, fresh_is}
 use Rattle.calls.proofs.Forms.{facts_self}
 use Rattle.calls.proofs.Labels.{labels_apart, labels_alike, borne}
 use Rattle.calls.proofs.Rows.{row_of, arity_of, arity_low, full}
@@ -35,22 +37,11 @@ use Rattle.calls.proofs.Rows.{row_of, arity_of, arity_low, full}
 equalities_are :
     (u v : List ℕ) → length u ≡ length v → 1 ≤ length u → length u ≤ 4 →
     equalities_of (length u) (names_of u) (names_of v) ≡ write_alt (record { fresh = 0; facts = equalities u v })
-equalities_are [] v e l h = absurd (omega arith)
-equalities_are (x ∷ []) [] e l h = absurd (omega arith)
 equalities_are (x ∷ []) (a ∷ v) e l h = refl
-equalities_are (x ∷ y ∷ []) [] e l h = absurd (omega arith)
-equalities_are (x ∷ y ∷ []) (a ∷ []) e l h = absurd (omega arith)
 equalities_are (x ∷ y ∷ []) (a ∷ b ∷ v) e l h = refl
-equalities_are (x ∷ y ∷ z ∷ []) [] e l h = absurd (omega arith)
-equalities_are (x ∷ y ∷ z ∷ []) (a ∷ []) e l h = absurd (omega arith)
-equalities_are (x ∷ y ∷ z ∷ []) (a ∷ b ∷ []) e l h = absurd (omega arith)
 equalities_are (x ∷ y ∷ z ∷ []) (a ∷ b ∷ c ∷ v) e l h = refl
-equalities_are (x ∷ y ∷ z ∷ o ∷ []) [] e l h = absurd (omega arith)
-equalities_are (x ∷ y ∷ z ∷ o ∷ []) (a ∷ []) e l h = absurd (omega arith)
-equalities_are (x ∷ y ∷ z ∷ o ∷ []) (a ∷ b ∷ []) e l h = absurd (omega arith)
-equalities_are (x ∷ y ∷ z ∷ o ∷ []) (a ∷ b ∷ c ∷ []) e l h = absurd (omega arith)
 equalities_are (x ∷ y ∷ z ∷ o ∷ []) (a ∷ b ∷ c ∷ d ∷ v) e l h = refl
-equalities_are (x ∷ y ∷ z ∷ o ∷ q ∷ u) v e l h = absurd (omega arith)
+equalities_are _ _ e l h = absurd (omega arith)
 
 -- an alternative of one member fact
 single_alt :
@@ -142,7 +133,7 @@ module _ (K : ℕ → Option ℕ) (P : Plain) (good : Good P) where
       pass R.InterDown n o refl refl _ _ 0 0 refl refl (row_of P good is) refl refl refl refl
   complete {n} (union_up {s = s} {r = r} {t = t} {x = x} is e) b o h =
       pass R.UnionUp n o refl refl _ _ t 0 refl refl refl (row_of P good is) refl
-      (⊎_elim (λ q. or_left (eqb r x) (eq-eqb s x (sym q))) (λ q. or_right (eqb s x) (eq-eqb r x (sym q)))
+      (⊎_elim (λ q. or_left _ _ (eq-eqb s x (sym q))) (λ q. or_right _ _ (eq-eqb r x (sym q)))
       e)
       refl
   complete {n} (union_down is) b o h =
@@ -170,19 +161,16 @@ module _ (K : ℕ → Option ℕ) (P : Plain) (good : Good P) where
       (ap (λ (x : ℕ). apart x (fresh_names x n) s r) q ∙ ap (λ (x : Tuple). apart k x s r) z)
   complete {n} (eq_unsat_names {a = a}) b o h =
       pass R.EqUnsat n o refl refl _ _ 0 0 refl refl refl refl refl
-      (or_left false (and_true (h refl) (or_left false (eqb_self a)))) refl
+      (or_left _ _ (and_from _ _ (h refl) (or_left _ _ (eqb_self a)))) refl
   complete {n} (eq_unsat_terms {s = s}) b o h =
       pass R.EqUnsat n o refl refl _ _ 0 0 refl refl refl refl refl
-      (or_left false (and_true (h refl) (eqb_self s))) refl
+      (or_left _ _ (and_from _ _ (h refl) (eqb_self s))) refl
   complete {n} (eq_unsat_both {f = member u t}) b o h =
       pass R.EqUnsat n o refl refl _ _ 0 0 refl refl refl refl refl
       (negated o (facts_self true false (member u t))) refl
-  complete {n} (eq_unsat_both {f = equal x y}) b o h =
+  complete {n} (eq_unsat_both {f = f}) b o h =
       pass R.EqUnsat n o refl refl _ _ 0 0 refl refl refl refl refl
-      (negated o (facts_self true false (equal x y))) refl
-  complete {n} (eq_unsat_both {f = same x y}) b o h =
-      pass R.EqUnsat n o refl refl _ _ 0 0 refl refl refl refl refl
-      (negated o (facts_self true false (same x y))) refl
+      (negated o (facts_self true false f)) refl
   complete {n} (transp_up {u = u} {s = s} {t = t} is) b o h =
       let l = arity_low P good b.0.0 in
       let e = ap (λ (k : ℕ). reversed k (names_of u)) (arity_of P b.0.0) ∙ reversed_is u l.0 l.1 in
@@ -206,8 +194,8 @@ module _ (K : ℕ → Option ℕ) (P : Plain) (good : Good P) where
       let er : rest_from 1 (names_of (m ∷ c)) ≡ names_of c = rest_is (m ∷ []) c (omega arith) in
       let ej = ap₂ (λ (i : ℕ) (x : Tuple). joined i u x) ks er ∙ joined_is a (m ∷ []) c (omega arith) in
       pass R.JoinUp n o refl refl _ _ t 0 refl refl refl (row_of P good is) refl
-      (and_true (eqb_self s)
-      (and_true (eqb_self r) (and_true (le-leb 1 k (omega arith)) (eq-eqb _ m e))))
+      (and_from _ _ (eqb_self s)
+      (and_from _ _ (eqb_self r) (and_from _ _ (le-leb 1 k (omega arith)) (eq-eqb _ m e))))
       (single_alt true t ej)
   complete {n} (join_down a c {s = s} {r = r} {t = t} is ar) b o h =
       let l = arity_low P good ar in
@@ -223,14 +211,14 @@ module _ (K : ℕ → Option ℕ) (P : Plain) (good : Good P) where
       let l = arity_low P good b.0.0 in
       let e =
       ap₂ (λ (i : ℕ) (x : List ℕ). joined i (names_of x) (names_of v)) (arity_of P b.0.0)
-      (sym (append_nil u))
+      (sym (append-nil u))
       ∙ joined_is u [] v l.1 in
       pass R.ProdUp n o refl refl _ _ t 0 refl refl refl (row_of P good is) refl (simp eqb_self)
       (single_alt true t e)
   complete {n} (prod_down u v {s = s} {r = r} {t = t} is ar) b o h =
       let l = arity_low P good ar in
       let l' = arity_low P good b.0.0 in
-      let ej = joined_is u v [] l.1 ∙ ap names_of (append_nil u) in
+      let ej = joined_is u v [] l.1 ∙ ap names_of (append-nil u) in
       let er = rest_is u v (omega (arith, length-append u v)) in
       pass R.ProdDown n o refl refl _ _ 0 0 refl refl (row_of P good is) refl (left_of is refl ar) refl
       (ap₂ (λ (x y : Tuple). two_of 0 (in_fact true x s) (in_fact true y r) ∷ []) ej er)
@@ -249,7 +237,7 @@ module _ (K : ℕ → Option ℕ) (P : Plain) (good : Good P) where
       arity_of P b.0.0 ∙ length-append u (a ∷ v) in
       let lu : length u ≤ 3 = omega (arith, length-append u (a ∷ v)) in
       pass R.SwapName n o refl refl _ _ 0 (length u) refl refl refl refl refl
-      (and_true (or_left false (lt-ltb (length u) k (omega arith))) (eq-eqb _ a (at_is u v a lu)))
+      (and_from _ _ (or_left _ _ (lt-ltb (length u) k (omega arith))) (eq-eqb _ a (at_is u v a lu)))
       (single_alt g t (put_is u v a c lu))
   complete {n} swap_name_left b o h =
       pass R.SwapName n o refl refl _ _ 0 0 refl refl refl refl refl (simp eqb_self) refl

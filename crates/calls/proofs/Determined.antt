@@ -1,5 +1,5 @@
 -- The subject grants a call at most one stage, where it is read from numbers and stores (`single`).
-use Rattle.std.proofs.Common.{◌≡◌, ℕ, ◌⊎◌, List, [], length, drop, sym, refl, ap, ◌∙◌, subst, inl, inr, arith}
+use Rattle.std.proofs.Common.{◌≡◌, ℕ, ◌⊎◌, List, length, drop, sym, refl, ◌∙◌, subst, inl, inr, arith}
 use mathlib.Core.Option.{Option, none}
 use Rattle.std.specs.declared.option.Option.TheVariants as option
 use Rattle.records.specs.declared.record.RowRecord.TheVariants as row
@@ -7,20 +7,19 @@ use Rattle.records.specs.declared.verdict.Verdict.{Verdict}
 use Rattle.records.specs.declared.verdict.Verdict.TheVariants as verdict
 use Rattle.records.specs.Reading.{RowRead, byte, row_in, step_of}
 use Rattle.meaning.specs.Terms.{Row, Fact, names}
-use Rattle.meaning.specs.Calculus.{Alt, Branch, Fork, State, running, closed, apply, Applies}
+use Rattle.meaning.specs.Calculus.{Alt, Branch, Fork, running, apply, Applies}
 use Rattle.meaning.specs.Mixes.{Draft, drafted, with_code, with_row, with_constraint, Trial, moved, modelled}
 use Rattle.meaning.specs.Mixes.{Stage, filling, trying, settled, Call, add, seal, step, settle}
 use Rattle.meaning.specs.Mixes.{Grants, label_row, term_row, constraint_row, full_sheet, rule_step, model_step}
 use Rattle.meaning.specs.Mixes.{verdict_there}
 use Rattle.meaning.specs.Mixes as subject
-use Rattle.calls.specs.Reading.{read_row, write_row, read_fact, write_fact, Good}
+use Rattle.calls.specs.Reading.{write_row, write_fact, Good}
 use Rattle.calls.specs.Stores.{Held}
 use Rattle.calls.specs.Sheets.{Filling, Counts}
-use Rattle.records.specs.Reading.{fact_said}
 use Rattle.calls.specs.RuleSteps.{branch_facts}
 use Rattle.calls.specs.Trials.{plain_of, branch_of}
 use Rattle.calls.specs.Views.{Orderly, Whole, Live, LiveBy, plain_in, read_draft, state_of, state_by, verdict_by, read_trial}
-use Rattle.calls.specs.Runs.{sheet, trial, ended}
+use Rattle.calls.specs.Runs.{sheet, trial}
 use Rattle.calls.proofs.Granted as rows
 use Rattle.calls.proofs.Bridge.{bridged}
 use Rattle.calls.proofs.Written.{fact_back}
@@ -60,17 +59,11 @@ module _ (f : Filling) (h : Held) (o : Orderly f h) where
   led_one (option.Some (row.Term r)) st st' (R, w, c, e) (R', w', c', e') =
       let S = (read_draft f h).sheet in
       let back = row_back S.rows (names S) (length S.rows) in
-      let same : R ≡ R' =
-      sym (back R c.high c.fits) ∙ ap read_row (w ∙ sym w') ∙ back R' c'.high c'.fits in
-      e ∙ ap (λ (y : Row). filling (drafted (read_draft f h) (with_row S y))) same ∙ sym e'
+      cc (back R c.high c.fits, back R' c'.high c'.fits)
   led_one (option.Some (row.Constraint r)) st st' (F, w, c, e) (F', w', c', e') =
       let S = (read_draft f h).sheet in
       let back = fact_back (λ x. none) (plain_in f h) good (names S) in
-      let written : write_fact F ≡ write_fact F' =
-      sym (said_back (write_fact F)) ∙ ap fact_said (w ∙ sym w') ∙ said_back (write_fact F') in
-      let same : F ≡ F' =
-      sym (back F c.fits) ∙ ap (read_fact (plain_in f h).rows) written ∙ back F' c'.fits in
-      e ∙ ap (λ (y : Fact). filling (drafted (read_draft f h) (with_constraint S y))) same ∙ sym e'
+      cc (back F c.fits, back F' c'.fits, said_back (write_fact F), said_back (write_fact F'))
   led_one option.None st st' e e' = absurd e
 
 -- ── steps ──────────────────────────────────────────────────────────────────
@@ -107,44 +100,30 @@ stepped K T bs st (rule_step {b = b} {fs = fs} {alts = alts} r ph pl qh ql t w u
     })
 stepped K T bs st (model_step count rs u s g n l few sat) = inr (record { mark = refl; leads = refl })
 
--- two running states that are equal have equal branches and equal forks
-branch_at : State → Branch → Branch
-branch_at (running b fs) d = b
-branch_at closed d = d
-
-forks_at : State → List Fork
-forks_at (running b fs) = fs
-forks_at closed = []
-
 module _ (K : ℕ → Option ℕ) (t : Counts) (h : Held) (w : Whole t h) (bs : List ℕ) where
   -- the state of a trial that is undecided
   state_is :
       (v : Verdict) → t.verdict ≡ v → verdict_by v t h ≡ subject.undecided →
       (state_by v t h ≡ state_of t h) × Live t h
   state_is verdict.Undecided e u = (refl, subst (λ (x : Verdict). LiveBy x t h) e w.live)
-  state_is verdict.Closed e u = absurd (let z : ◌≡◌ {A = ℕ} 0 1 = cc in omega arith)
-  state_is verdict.Open e u = absurd (let z : ◌≡◌ {A = ℕ} 0 1 = cc in omega arith)
+  state_is verdict.Closed e u = absurd cc
+  state_is verdict.Open e u = absurd cc
 
   rules_one :
       (st st' : Stage) → RuleLed K (read_trial t h) bs st → RuleLed K (read_trial t h) bs st' → st ≡ st'
-  unfolding branch_at forks_at
   rules_one st st' x y =
       let T = read_trial t h in
       let s = state_is t.verdict refl x.undecided in
-      let at_x : branch_of t h ≡ x.branch = ap (λ (z : State). branch_at z (branch_of t h)) (sym s.0 ∙ x.state) in
-      let at_y : branch_of t h ≡ y.branch = ap (λ (z : State). branch_at z (branch_of t h)) (sym s.0 ∙ y.state) in
+      let at_x : branch_of t h ≡ x.branch = cc (s.0, x.state) in
+      let at_y : branch_of t h ≡ y.branch = cc (s.0, y.state) in
       let Ap : Branch → List Alt → Type 0 = λ b alts.
       Applies K T.sheet b (step_of bs).rule (step_of bs).p (step_of bs).q (step_of bs).t (step_of bs).w alts in
       let alts_one : x.alts ≡ y.alts =
       bridged.2 K (plain_of t h) (branch_facts t h) t.names s.1.fair (step_of bs) x.alts y.alts
       (subst (λ (b : Branch). Ap b x.alts) (sym at_x) x.applies)
       (subst (λ (b : Branch). Ap b y.alts) (sym at_y) y.applies) in
-      let forks_one : x.forks ≡ y.forks = ap forks_at (sym x.state ∙ y.state) in
-      x.leads
-      ∙ ap (λ (b : Branch). trying (moved T (apply b x.alts x.forks))) (sym at_x ∙ at_y)
-      ∙ ap (λ (a : List Alt). trying (moved T (apply y.branch a x.forks))) alts_one
-      ∙ ap (λ (f : List Fork). trying (moved T (apply y.branch y.alts f))) forks_one
-      ∙ sym y.leads
+      let forks_one : x.forks ≡ y.forks = cc (x.state, y.state) in
+      cc (x.leads, y.leads)
 
   steps_one :
       (st st' : Stage) → RuleLed K (read_trial t h) bs st ⊎ ModelLed (read_trial t h) bs st →
@@ -166,11 +145,7 @@ pub single : Single
 single K (sheet f h) (add bs) x y o g k =
     led_one f h o (row_in bs) x y (led K (read_draft f h) bs x g) (led K (read_draft f h) bs y k)
 single K (sheet f h) seal x y o g k = sealed_one K (read_draft f h) x g ∙ sym (sealed_one K (read_draft f h) y k)
-single K (sheet f h) (step bs) x y o g k = elim g [ ]
-single K (sheet f h) settle x y o g k = elim g [ ]
-single K (trial t h) (add bs) x y o g k = elim g [ ]
-single K (trial t h) seal x y o g k = elim g [ ]
 single K (trial t h) (step bs) x y o g k =
     steps_one K t h o bs x y (stepped K (read_trial t h) bs x g) (stepped K (read_trial t h) bs y k)
 single K (trial t h) settle x y o g k = settled_one K (read_trial t h) x g ∙ sym (settled_one K (read_trial t h) y k)
-single K (ended t h) c x y o g k = elim g [ ]
+single K _ _ x y o g k = elim g [ ]

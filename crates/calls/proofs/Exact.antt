@@ -1,6 +1,9 @@
 -- A term row, or a constraint, that fits passes its tests (`row_passes`, `fact_passes`).
-use Rattle.std.proofs.Common.{◌≡◌, ℕ, zero, suc, ◌+◌, ◌<◌, ◌≤◌, Bool, true, false, cond, eqb, ltb, leb, List, [], ◌∷◌, length, get_or, sym, refl, ◌∙◌, subst, ap₂, arith, ltb-false, ltb-true, lt-ltb, eq-eqb, le-leb}
+use Rattle.std.proofs.Common.{◌≡◌, ℕ, ◌+◌, ◌<◌, ◌≤◌, Bool, true, false, cond, eqb, ltb, leb, List, length, get_or, sym, refl, ◌∙◌, subst, ap₂, arith, ltb-false, ltb-true, lt-ltb, eq-eqb, le-leb}
+use Rattle.std.proofs.lemmas.Bool.{and_from}
 use Rattle.std.specs.List.{AllByRecursion}
+use Rattle.std.proofs.ByRecursion.{All-get_or}
+use Rattle.std.proofs.lemmas.List.{get_or_past}
 use Rattle.records.specs.declared.rows.Fact.{Fact as FactRow}
 use Rattle.records.specs.declared.rows.TermRow.{TermRow}
 use Rattle.records.specs.Tuples as tuple
@@ -11,15 +14,8 @@ use Rattle.meaning.specs.Terms.{Form, member, equal, same, names, Arity, OpFits,
 use Rattle.calls.specs.Reading.{names_of, read_row, read_form, write_form, row_of, write_op, Plain, read_sheet}
 use Rattle.calls.specs.Reading.{RowFits, FactFits}
 use Rattle.calls.specs.Tests.{place_ok, places, in_tests, same_tests, alike_tests, fact_ok, row_tests, row_ok}
-use Rattle.calls.proofs.Truth.{and_true, all_hold}
-use Rattle.calls.proofs.Tuples.{past}
+use Rattle.calls.proofs.Truth.{all_hold}
 use Rattle.calls.proofs.Rows.{arity_of, term_below}
-
--- an element of a list of numbers below n
-under : (n : ℕ) (u : List ℕ) (i : ℕ) → AllByRecursion (λ e. e < n) u → i < length u → get_or u i 0 < n
-under n [] i h l = absurd (omega arith)
-under n (x ∷ u) zero h l = h.0
-under n (x ∷ u) (suc i) h l = under n u i h.1 (omega arith)
 
 -- place i of a tuple of names below n, of arity k
 place_holds :
@@ -27,8 +23,8 @@ place_holds :
 place_holds n k u i e h = go (ltb i k) refl
   where
     go : (b : Bool) → ltb i k ≡ b → cond b (ltb (get_or u i 0) n) (eqb (get_or u i 0) 0) ≡ true
-    go true q = let l = ltb-true i k q in lt-ltb (get_or u i 0) n (under n u i h (omega arith))
-    go false q = let l = ltb-false i k q in eq-eqb (get_or u i 0) 0 (past u i (omega arith))
+    go true q = let l = ltb-true i k q in lt-ltb (get_or u i 0) n (All-get_or (λ e. e < n) u i 0 (omega arith) h)
+    go false q = let l = ltb-false i k q in eq-eqb (get_or u i 0) 0 (get_or_past u i 0 (omega arith))
 
 places_hold :
     (n k : ℕ) (u : List ℕ) → length u ≡ k → AllByRecursion (λ e. e < n) u → AllByRecursion (λ b. b ≡ true) (places n k (names_of u))
@@ -43,15 +39,7 @@ places_hold n k u e h = (
 -- a row has the arity that it is written with
 arity_is : (k : ℕ) (o : Op) → (write_op k o).arity ≡ k
 arity_is k variable = refl
-arity_is k empty = refl
-arity_is k (single v) = refl
-arity_is k (union s r) = refl
-arity_is k (inter s r) = refl
-arity_is k (diff s r) = refl
-arity_is k (transp s) = refl
-arity_is k (prod s r) = refl
-arity_is k (join s r) = refl
-arity_is k (closure s) = refl
+arity_is k _ = refl
 
 low_holds : (k : ℕ) (o : Op) → 1 ≤ k → leb 1 (write_op k o).arity ≡ true
 low_holds k o h = le-leb 1 _ (subst (λ (x : ℕ). 1 ≤ x) (sym (arity_is k o)) h)
@@ -117,8 +105,8 @@ module _ (P : Plain) where
   pub row_passes : (t : ℕ) (r : TermRow) → RowFits P t r → row_ok P.rows (names (read_sheet P)) t r ≡ true
   row_passes t r b =
       subst (λ (x : TermRow). row_ok P.rows (names (read_sheet P)) t x ≡ true) b.written
-      (and_true (low_holds r.arity (read_row r).op b.low)
-      (and_true (high_holds r.arity (read_row r).op b.high)
+      (and_from _ _ (low_holds r.arity (read_row r).op b.low)
+      (and_from _ _ (high_holds r.arity (read_row r).op b.high)
       (all_hold _ (op_holds (names (read_sheet P)) t r.arity (read_row r).op b.fits))))
 
   -- a form that fits passes its tests, as written
@@ -131,7 +119,7 @@ module _ (P : Plain) where
         places_hold n (row_at P.rows t).arity u (sym (arity_of P b.0))
             b.1,
       )
-  form_holds n g (equal x y) b = and_true (lt-ltb x n b.0) (and_true (lt-ltb y n b.1) refl)
+  form_holds n g (equal x y) b = and_from _ _ (lt-ltb x n b.0) (and_from _ _ (lt-ltb y n b.1) refl)
   form_holds n g (same s r) b =
       all_hold
       (same_tests (length P.rows) (row_at P.rows s).arity (row_at P.rows r).arity

@@ -49,8 +49,7 @@ fact_written F e = ap (λ (l : List ℕ). 67 ∷ 78 ∷ l) (fact_bytes_are F) �
 -- the fact that a row says, and the row that says a fact
 pub said_back : (w : FactRow) → fact_said (said_by w) ≡ w
 said_back w =
-    λ i.
-    record { form = w.form; positive = go w.positive i; term = w.term; a = w.a; b = w.b; c = w.c; d = w.d }
+    λ i. record w { positive = go w.positive i }
   where
     go : (g : Bool) → eqb (sign_byte g) 1 ≡ g
     go true = refl
@@ -62,8 +61,7 @@ sign_low false = refl
 
 pub said_again : (r : ConstraintRow) → leb r.sign 1 ≡ true → said_by (fact_said r) ≡ r
 said_again r e =
-    λ i.
-    record { form = r.form; sign = go r.sign e i; term = r.term; a = r.a; b = r.b; c = r.c; d = r.d }
+    λ i. record r { sign = go r.sign e i }
   where
     go : (s : ℕ) → leb s 1 ≡ true → sign_byte (eqb s 1) ≡ s
     go zero e = refl

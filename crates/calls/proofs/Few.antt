@@ -1,8 +1,10 @@
 -- The number of tuples is within a limit exactly where the terms have few enough: `few_exact`; and it is what
 -- any lists of exactly the terms' tuples have together: `tuples_are`.
-use Rattle.std.proofs.Common.{◌≡◌, ℕ, zero, suc, ◌+◌, ◌<◌, ◌≤◌, true, leb, ◌↔◌, List, [], ◌∷◌, ◌++◌, length, get_or, take, sym, refl, ap, ◌∙◌, subst, ap₂, arith, le-leb, leb-true}
-use native.Mathlib.Decide.{dec_lt, ℕ_discrete}
-use Rattle.std.proofs.lemmas.List.{take_more, take_all, length_push, get_or_push, get_or_append_left}
+use Rattle.std.proofs.Common.{◌≡◌, ℕ, zero, suc, ◌+◌, ◌<◌, ◌≤◌, true, leb, ◌↔◌, List, [], ◌∷◌, ◌++◌, map, length, get_or, take, sym, refl, ap, ◌∙◌, subst, ap₂, arith, le-leb, leb-true}
+use native.Mathlib.Decide.{ℕ_discrete}
+use Rattle.std.specs.List.{range_with_len}
+use Rattle.std.proofs.lemmas.List.{take_more, take_all}
+use Rattle.std.proofs.lemmas.List.FromFn.{length-map-range_with_len, get_or-map-range_with_len}
 use Rattle.meaning.specs.Terms.{Fact, Sheet, term}
 use Rattle.meaning.specs.Meaning.{Interp, Value}
 use Rattle.meaning.specs.Finite.{tuple_dec, finite}
@@ -20,37 +22,14 @@ module _ (S : Sheet) (I : Interp ℕ) where
   pub tuples_exactly : (t : ℕ) → Exactly (Value S.rows I t) (tuples_of S I t)
   tuples_exactly t = once_exactly (tuple_dec ℕ_discrete) (finite ℕ_discrete I (term S.rows t))
 
-  -- the tuples of the terms below n, term by term
-  lists_below : ℕ → List (List (List ℕ))
-  lists_below zero = []
-  lists_below (suc n) = lists_below n ++ tuples_of S I n ∷ []
+  -- the tuples of the terms, term by term
+  abbrev all_lists : List (List (List ℕ))
+  all_lists = map (tuples_of S I) (range_with_len 0 (length S.rows))
 
-  many : (n : ℕ) → length (lists_below n) ≡ n
-  unfolding lists_below
-  many zero = refl
-  many (suc n) = let ih = many n in omega (arith, ih, length_push (lists_below n) (tuples_of S I n))
-
-  listed : (n t : ℕ) → t < n → get_or (lists_below n) t [] ≡ tuples_of S I t
-  unfolding lists_below
-  listed zero t l = absurd (omega arith)
-  listed (suc n) t l = go (dec_lt t n) (listed n t)
-    where
-      go : Dec (t < n) → (t < n → get_or (lists_below n) t [] ≡ tuples_of S I t) →
-          get_or (lists_below n ++ tuples_of S I n ∷ []) t [] ≡ tuples_of S I t
-      go (yes k) ih =
-          get_or_append_left (lists_below n) (tuples_of S I n ∷ []) [] t (let m = many n in omega (arith, m))
-          ∙ ih k
-      go (no k) ih =
-          let e : n ≡ t = omega arith in
-          get_or_push (lists_below n) (tuples_of S I n) [] t (many n ∙ e) ∙ ap (tuples_of S I) e
-
-  summed : (n : ℕ) → total (lists_below n) ≡ tuples_below S I n
-  unfolding lists_below
-  summed zero = refl
-  summed (suc n) =
-      let ih = summed n in
-      total_push (lists_below n) (tuples_of S I n)
-      ∙ ap (λ (k : ℕ). k + length (tuples_of S I n)) ih
+  all_exact : (t : ℕ) → t < length S.rows → Exactly (Value S.rows I t) (get_or all_lists t [])
+  all_exact t l =
+      subst (Exactly (Value S.rows I t))
+      (sym (get_or-map-range_with_len (tuples_of S I) 0 (length S.rows) t t [] l (omega arith))) (tuples_exactly t)
 
   -- one turn of a loop over the terms
   pub tuples_more : (n : ℕ) → tuples_below S I (n + 1) ≡ tuples_below S I n + length (tuples_of S I n)
@@ -79,14 +58,15 @@ pub few_exact : (S : Sheet) (rs : List ℕ) (facts : List Fact) (m : ℕ) →
 few_exact S rs facts m = (from, to)
   where
     from : leb (tuples_in S (Named S rs facts)) m ≡ true → Few S rs facts m
-    from h = record {
-      lists = lists_below S (Named S rs facts) (length S.rows);
-      one_each = many S (Named S rs facts) (length S.rows);
-      exact = λ t l. subst (Exactly (Value S.rows (Named S rs facts) t))
-          (sym (listed S (Named S rs facts) (length S.rows) t l)) (tuples_exactly S (Named S rs facts) t);
-      few = subst (λ (k : ℕ). k ≤ m) (sym (summed S (Named S rs facts) (length S.rows)))
-          (leb-true (tuples_in S (Named S rs facts)) m h);
-    }
+    from h =
+        let I = Named S rs facts in
+        let one_each = length-map-range_with_len (tuples_of S I) 0 (length S.rows) in
+        record {
+          lists = all_lists S I;
+          one_each = one_each;
+          exact = all_exact S I;
+          few = subst (λ (k : ℕ). k ≤ m) (tuples_are S I (all_lists S I) one_each (all_exact S I)) (leb-true _ m h);
+        }
 
     to : Few S rs facts m → leb (tuples_in S (Named S rs facts)) m ≡ true
     to w =

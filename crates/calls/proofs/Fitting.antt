@@ -1,6 +1,7 @@
 -- The room tests of a step speak of all its alternatives (`room_told`).
-use Rattle.std.proofs.Common.{◌≡◌, ℕ, ◌+◌, ◌≤◌, Bool, true, false, ◌||◌, ltb, ◌↔◌, [], ◌∷◌, sym, refl, arith, ltb-false, le-ltb}
+use Rattle.std.proofs.Common.{◌≡◌, ℕ, ◌+◌, ◌≤◌, Bool, false, ◌||◌, ltb, ◌↔◌, [], ◌∷◌, arith, ltb-false, le-ltb}
 use Rattle.std.specs.List.{AllByRecursion}
+use Rattle.std.proofs.lemmas.Bool.{or_parts}
 use Rattle.records.specs.declared.rule.Rule.{Rule as RuleName}
 use Rattle.records.specs.declared.rule.Rule.TheVariants as R
 use Rattle.rules.specs.declared.cited.Cited.{Cited}
@@ -9,19 +10,13 @@ use Rattle.rules.specs.Facts.{no_alt}
 use Rattle.rules.specs.Rules.{alternative_of, size_of}
 use Rattle.calls.specs.Passing.{alt_rows}
 use Rattle.calls.specs.Fitting.{RoomTold}
-use Rattle.calls.proofs.Truth.{clash}
 
 -- three counts within the limit l
 within : (l x y z : ℕ) → (ltb l x || (ltb l y || ltb l z)) ≡ false → (x ≤ l) × (y ≤ l) × (z ≤ l)
-within l x y z h = go (ltb l x) (ltb l y) (ltb l z) refl refl refl h
-  where
-    go :
-        (a b c : Bool) → ltb l x ≡ a → ltb l y ≡ b → ltb l z ≡ c → (a || (b || c)) ≡ false →
-        (x ≤ l) × (y ≤ l) × (z ≤ l)
-    go true b c ex ey ez h = clash (sym h)
-    go false true c ex ey ez h = clash (sym h)
-    go false false true ex ey ez h = clash (sym h)
-    go false false false ex ey ez h = (ltb-false l x ex, ltb-false l y ey, ltb-false l z ez)
+within l x y z h =
+    let r = or_parts _ _ h in
+    let q = or_parts _ _ r.1 in
+    (ltb-false l x r.0, ltb-false l y q.0, ltb-false l z q.1)
 
 over : (l x y z : ℕ) → x ≤ l → y ≤ l → z ≤ l → (ltb l x || (ltb l y || ltb l z)) ≡ false
 over l x y z hx hy hz = λ i. le-ltb l x hx i || (le-ltb l y hy i || le-ltb l z hz i)
@@ -59,31 +54,14 @@ module _ (count : AltRow → ℕ) (l : ℕ) where
 
   -- a rule with fewer than three alternatives gives its last one again
   told : count no_alt ≤ l → (r : RuleName) (c : Cited) (n : ℕ) → Told r c n
-  told h R.InterUp c n = one_told _
-  told h R.InterDown c n = one_told _
-  told h R.UnionUp c n = one_told _
   told h R.UnionDown c n = two_told _ _
   told h R.DiffUp c n = two_told _ _
-  told h R.DiffDown c n = one_told _
-  told h R.SingleUp c n = one_told _
-  told h R.SingleDown c n = one_told _
-  told h R.EmptyUnsat c n = none_told h
   told h R.SetDiseq c n = two_told _ _
-  told h R.EqUnsat c n = none_told h
-  told h R.TranspUp c n = one_told _
-  told h R.TranspDown c n = one_told _
-  told h R.JoinUp c n = one_told _
-  told h R.JoinDown c n = one_told _
-  told h R.ProdUp c n = one_told _
-  told h R.ProdDown c n = one_told _
-  told h R.ClosUpOne c n = one_told _
-  told h R.ClosUpTwo c n = one_told _
   told h R.ClosDown c n = three_told _ _ _
-  told h R.Sym c n = one_told _
-  told h R.SwapName c n = one_told _
-  told h R.SwapTerm c n = one_told _
+  told h R.EmptyUnsat c n = none_told h
+  told h R.EqUnsat c n = none_told h
   told h R.LabelUnsat c n = none_told h
-  told h R.LabelSame c n = one_told _
+  told h _ c n = one_told _
 
 pub room_told : RoomTold
 room_told = (

@@ -1,7 +1,7 @@
 -- What a step by a rule is right to come to (`Right`): where it is granted the rule applies with room, and
 -- numbers and stores then read as the state that its alternatives bring; where it is refused no rule applies
 -- with room. Facts and forks that land as lists are followed in the stores (`lands_follow`).
-use Rattle.std.proofs.Common.{◌≡◌, ℕ, ◌+◌, ◌<◌, ◌≤◌, List, [], length, take, Ok, Err, Result, sym, ap, ◌∙◌, subst, arith, length-take}
+use Rattle.std.proofs.Common.{◌≡◌, ℕ, ◌<◌, ◌≤◌, List, [], length, take, Ok, Err, Result, sym, ◌∙◌, subst, arith, length-take}
 use mathlib.Core.Option.{Option}
 use Rattle.records.specs.declared.rows.Fact.{Fact as FactRow}
 use Rattle.records.specs.declared.rows.Step.{Step}
@@ -15,13 +15,13 @@ use Rattle.rules.specs.Looked.{planned}
 use Rattle.meaning.specs.Calculus.{Alt, Fork, State, running, closed, apply}
 use Rattle.meaning.specs.Mixes.{Room}
 use Rattle.meaning.specs.Mixes as subject
-use Rattle.calls.specs.Reading.{Plain, read_sheet, Good}
+use Rattle.calls.specs.Reading.{Good}
 use Rattle.calls.specs.Bridge.{read_branch, plan_alts, Fair, AppliesTo}
 use Rattle.calls.specs.Stores.{Held, with_facts, with_forks}
 use Rattle.calls.specs.Sheets.{Counts}
 use Rattle.calls.specs.RuleSteps.{codes_of, rows_of, branch_facts, forks_of, counted, taken}
 use Rattle.calls.specs.Trials.{plain_of, branch_of}
-use Rattle.calls.specs.Views.{read_forks, state_of, state_by, verdict_by, read_trial, Stacked, Live, LiveBy, Whole}
+use Rattle.calls.specs.Views.{read_forks, state_of, read_trial, Stacked, Live, LiveBy, Whole}
 use Rattle.calls.proofs.Bridge.{bridged}
 use Rattle.calls.proofs.Landings.{Lands}
 
@@ -45,21 +45,31 @@ Right K t h x (Err e) =
 abbrev pub Follows : Counts → Held → Counts → Held → State → Type 0
 Follows t h t' h' x = Whole t' h' × (read_trial t' h' ≡ subject.moved (read_trial t h) x)
 
-module _ (t : Counts) (h : Held) (w : Whole t h) (un : t.verdict ≡ verdict.Undecided) (room : t.granted < 1000000) where
-  pub live : Live t h
-  live = subst (λ (v : Verdict). LiveBy v t h) un w.live
+-- A trial with other numbers of granted and denied records is whole too.
+abbrev pub recorded : Counts → ℕ → ℕ → Counts
+recorded t g d = record t { granted = g; denied = d }
+
+live_recorded : (t : Counts) (h : Held) (g d : ℕ) (v : Verdict) → LiveBy v t h → LiveBy v (recorded t g d) h
+live_recorded t h g d verdict.Closed l = tt
+live_recorded t h g d _ l = record { fair = l.fair; stacked = l.stacked }
+
+pub whole_recorded : (t : Counts) (h : Held) (g d : ℕ) → g ≤ 1000000 → Whole t h → Whole (recorded t g d) h
+whole_recorded t h g d few w = search (arith, live_recorded t h g d t.verdict w.live)
+
+module _ (t : Counts) (h : Held) (w : Whole t h) where
+  pub live : t.verdict ≡ verdict.Undecided → Live t h
+  live un = subst (λ (v : Verdict). LiveBy v t h) un w.live
 
   -- the branch is as long as counted, and there are as many forks
   pub facts_long : length (branch_facts t h) ≡ t.facts
   facts_long =
-      let big : 1024 ≤ length h.facts = w.enough.facts in
-      let low : t.facts ≤ 1024 = w.few_facts in omega (arith, length-take t.facts h.facts)
+      omega (arith, length-take t.facts h.facts)
 
   pub forks_long : length (forks_of t h) ≡ t.forks
   forks_long =
-      let big : 64 ≤ length h.forks = w.enough.forks in
-      let low : t.forks ≤ 64 = w.few_forks in omega (arith, length-take t.forks h.forks)
+      omega (arith, length-take t.forks h.forks)
 
+module _ (t : Counts) (h : Held) (w : Whole t h) (un : t.verdict ≡ verdict.Undecided) (room : t.granted < 1000000) where
   -- facts and forks in the stores that land are followed
   pub lands_follow :
       (m n k : ℕ) (xs : List FactRow) (ks : List ForkRow) (x : State) (F : List FactRow) (G : List ForkRow) →
@@ -68,17 +78,12 @@ module _ (t : Counts) (h : Held) (w : Whole t h) (un : t.verdict ≡ verdict.Und
       Lands (plain_of t h) t.constraints x m n F G →
       Follows t h (counted t t.verdict m n k) (with_facts (with_forks h ks) xs) x
   lands_follow m n k xs ks x F G lx lk ec eF eG few l =
-      let bigf : 1024 ≤ length h.facts = w.enough.facts in
-      let big : 64 ≤ length h.forks = w.enough.forks in
-      let same : plain_of t h ≡ plain_of (counted t t.verdict m n k) (with_facts (with_forks h ks) xs) =
-      λ i. record { codes = codes_of t h; free = t.free; rows = rows_of t h; constraints = sym ec i } in
-      let fair =
-      subst (λ (z : Plain). Fair z (take m xs) n) same
-      (subst (λ (z : List FactRow). Fair (plain_of t h) z n) (sym eF) l.fair) in
-      let stacked =
-      subst (λ (z : Plain). Stacked z (take m xs) t.constraints m (take k ks)) same
-      (subst (λ (z : List ForkRow). Stacked (plain_of t h) (take m xs) t.constraints m z) (sym eG)
-      (subst (λ (z : List FactRow). Stacked (plain_of t h) z t.constraints m G) (sym eF) l.stacked)) in
+      let same : plain_of t h ≡ plain_of (counted t t.verdict m n k) (with_facts (with_forks h ks) xs) = cc in
+      let fair : Fair (plain_of (counted t t.verdict m n k) (with_facts (with_forks h ks) xs)) (take m xs) n =
+      rw (← same, eF) l.fair in
+      let stacked :
+      Stacked (plain_of (counted t t.verdict m n k) (with_facts (with_forks h ks) xs)) (take m xs) t.constraints m (take k ks) =
+      rw (← same, eF, eG) l.stacked in
       let state : state_of (counted t t.verdict m n k) (with_facts (with_forks h ks) xs) ≡ x =
       (λ i. running (read_branch (sym same i) (eF i) n) (read_forks (sym same i) (eF i) (eG i) [])) ∙ l.reads in (
         record {
@@ -104,19 +109,7 @@ module _ (t : Counts) (h : Held) (w : Whole t h) (un : t.verdict ≡ verdict.Und
               (λ (v : Verdict). LiveBy v (counted t t.verdict m n k) (with_facts (with_forks h ks) xs))
               (sym un) (record { fair = fair; stacked = stacked });
         },
-        λ i. record {
-          sheet = read_sheet (sym same i);
-          state =
-              (ap (λ (v : Verdict). state_by v (counted t t.verdict m n k) (with_facts (with_forks h ks) xs)) un
-              ∙ state)
-              i;
-          granted = t.granted + 1;
-          denied = t.denied;
-          verdict =
-              (ap (λ (v : Verdict). verdict_by v (counted t t.verdict m n k) (with_facts (with_forks h ks) xs)) un
-              ∙ ap subject.verdict_at state)
-              i;
-        },
+        cc (un, same, state),
       )
 
   -- the last branch closes
@@ -124,26 +117,8 @@ module _ (t : Counts) (h : Held) (w : Whole t h) (un : t.verdict ≡ verdict.Und
       (x : State) → closed ≡ x →
       Follows t h (counted t verdict.Closed t.facts t.names t.forks) h x
   closes_follow x e = (
-    record {
-      enough = w.enough;
-      few_sheet_names = w.few_sheet_names;
-      few_terms = w.few_terms;
-      few_constraints = w.few_constraints;
-      few_names = w.few_names;
-      few_facts = w.few_facts;
-      few_forks = w.few_forks;
-      few_granted = omega arith;
-      constraints_kept = w.constraints_kept;
-      good = w.good;
-      live = tt;
-    },
-    λ i. record {
-      sheet = read_sheet (plain_of t h);
-      state = e i;
-      granted = t.granted + 1;
-      denied = t.denied;
-      verdict = subject.verdict_at (e i);
-    },
+    search arith,
+    cc,
   )
 
   -- ── a step with a plan ───────────────────────────────────────────────────
@@ -152,7 +127,7 @@ module _ (t : Counts) (h : Held) (w : Whole t h) (un : t.verdict ≡ verdict.Und
       (K : ℕ → Option ℕ) (x : Step) (y : Plan)
       (ep : planned K (codes_of t h) (rows_of t h) (branch_facts t h) x ≡ Ok y) where
     pub applies : AppliesTo K (plain_of t h) (branch_facts t h) t.names x (plan_alts (plain_of t h) t.names y)
-    applies = bridged.0 K (plain_of t h) (branch_facts t h) t.names live.fair x y ep
+    applies = bridged.0 K (plain_of t h) (branch_facts t h) t.names (live t h w un).fair x y ep
 
     -- the plan's alternatives are the only ones, so without room for them the step is refused
     pub refused :
@@ -160,10 +135,8 @@ module _ (t : Counts) (h : Held) (w : Whole t h) (un : t.verdict ≡ verdict.Und
         Right K t h x (Err e)
     refused e never = λ alts a has.
         never
-        (subst (λ (z : List Alt). Room (branch_of t h) (open_forks t h) z)
-        (bridged.2 K (plain_of t h) (branch_facts t h) t.names live.fair x alts
-        (plan_alts (plain_of t h) t.names y) a applies)
-        has)
+        (rw (bridged.2 K (plain_of t h) (branch_facts t h) t.names (live t h w un).fair x alts
+        (plan_alts (plain_of t h) t.names y) a applies) at has)
 
     pub granted :
         (o : Outcome) → Room (branch_of t h) (open_forks t h) (plan_alts (plain_of t h) t.names y) →

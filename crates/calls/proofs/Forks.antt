@@ -1,17 +1,15 @@
 -- Forks are read the same, and fit the same, over facts with the front that they were made on (`forks_same`,
 -- `stack_moved`); the latest fork of a stack fits, over a stack of the others (`top`).
-use Rattle.std.proofs.Common.{◌≡◌, ℕ, zero, suc, ◌+◌, ◌-◌, ◌<◌, ◌≤◌, List, [], ◌∷◌, ◌++◌, map, length, take, Option as Maybe, sym, refl, ap, ◌∙◌, subst, ap₂, arith}
+use Rattle.std.proofs.Common.{◌≡◌, ℕ, zero, suc, ◌+◌, ◌-◌, ◌<◌, ◌≤◌, List, [], ◌∷◌, ◌++◌, map, length, take, sym, refl, ap, ◌∙◌, subst, ap₂, arith}
 use Rattle.std.specs.List.{AllByRecursion}
+use Rattle.std.proofs.lemmas.List.{same_from_push, length-map}
 use Rattle.records.specs.declared.rows.Fact.{Fact as FactRow}
-use Rattle.rules.specs.declared.cited.Alt.{Alt as AltRow}
 use Rattle.rules.specs.declared.outcome.Fork.{Fork as ForkRow}
 use Rattle.meaning.specs.Calculus.{Fork, up_from}
-use Rattle.calls.specs.Reading.{Plain, alt_facts}
-use Rattle.calls.specs.Passing.{alt_rows}
-use Rattle.calls.specs.Bridge.{Fair}
-use Rattle.calls.specs.RuleSteps.{or_none, cited_again}
-use Rattle.calls.specs.Views.{cited_at, fork_with, read_fork, read_forks, ForkFits, Stacked, no_fork, over}
-use Rattle.calls.proofs.Fronts.{front_cut, nth_cut, snoc_same}
+use Rattle.calls.specs.Reading.{Plain}
+use Rattle.calls.specs.Views.{read_fork, read_forks, ForkFits, Stacked, no_fork, over}
+use Rattle.meaning.proofs.RuleFits.{run_length}
+use Rattle.calls.proofs.Fronts.{front_cut, nth_cut}
 
 -- ── lists of alternatives ──────────────────────────────────────────────────
 
@@ -37,8 +35,7 @@ all_at_number Q g c j h l =
 
 -- how many there are
 pub count_from : {X : Type 0} (g : ℕ → X) (i c : ℕ) → length (map g (up_from i c)) ≡ c
-count_from g i zero = refl
-count_from g i (suc c) = let e = count_from g (i + 1) c in omega arith
+count_from g i c = length-map (up_from i c) g ∙ run_length i c
 
 -- the rest of the alternatives, where some are left and where none is
 pub more_from : (i c : ℕ) → i < c → up_from i (c - i) ≡ i ∷ up_from (i + 1) (c - (i + 1))
@@ -71,19 +68,19 @@ module _ (P : Plain) where
     fork_same cs ds m f h e =
         let en = front_cut cs ds f.facts m h.front e in
         let ep = nth_cut cs ds f.facts f.p h.cites_below en in
-        λ i. fork_with P f (en i) (cited_again P.rows (or_none (ep i)) f.t)
+        cc
 
     pub forks_same :
         (cs ds : List FactRow) (m : ℕ) (fs : List ForkRow) (read : List Fork) → Stacked P cs c m fs →
         take m cs ≡ take m ds → read_forks P cs fs read ≡ read_forks P ds fs read
     forks_same cs ds m fs read no_fork e = refl
     forks_same cs ds m fs read (over gs f q rest fit) e =
-        ap (λ (z : List ForkRow). read_forks P cs z read) q
-        ∙ forks_more cs gs f read
-        ∙ ap₂ ◌∷◌ (fork_same cs ds m f fit e)
-        (forks_same cs ds f.facts gs read rest (front_cut cs ds f.facts m fit.front e))
-        ∙ sym (forks_more ds gs f read)
-        ∙ ap (λ (z : List ForkRow). read_forks P ds z read) (sym q)
+        cc (
+          forks_more cs gs f read,
+          forks_more ds gs f read,
+          fork_same cs ds m f fit e,
+          forks_same cs ds f.facts gs read rest (front_cut cs ds f.facts m fit.front e),
+        )
 
     pub fits_moved :
         (cs ds : List FactRow) (m m' : ℕ) (f : ForkRow) → f.facts ≤ m' → take m cs ≡ take m ds →
@@ -91,33 +88,7 @@ module _ (P : Plain) where
     fits_moved cs ds m m' f l e h =
         let en = front_cut cs ds f.facts m h.front e in
         let ep = nth_cut cs ds f.facts f.p h.cites_below en in
-        record {
-          front = l;
-          constraints_below = h.constraints_below;
-          cites_below = h.cites_below;
-          few_names = h.few_names;
-          left = h.left;
-          names_fit =
-              subst
-              (λ (z : Maybe FactRow). AllByRecursion (λ (a : AltRow). f.names + a.fresh ≤ 64)
-              (alt_rows f.rule (cited_again P.rows (or_none z) f.t) f.names))
-              ep h.names_fit;
-          facts_fit =
-              subst
-              (λ (z : Maybe FactRow). AllByRecursion (λ (a : AltRow). f.facts + length (alt_facts a) ≤ 1024)
-              (alt_rows f.rule (cited_again P.rows (or_none z) f.t) f.names))
-              ep h.facts_fit;
-          fair =
-              subst
-              (λ (z : List FactRow). AllByRecursion (λ (a : AltRow). Fair P (z ++ alt_facts a) (f.names + a.fresh))
-              (alt_rows f.rule (cited_at P ds f) f.names))
-              en
-              (subst
-              (λ (z : Maybe FactRow).
-              AllByRecursion (λ (a : AltRow). Fair P (take f.facts cs ++ alt_facts a) (f.names + a.fresh))
-              (alt_rows f.rule (cited_again P.rows (or_none z) f.t) f.names))
-              ep h.fair);
-        }
+        search (rw ep at h.names_fit, rw ep at h.facts_fit, rw (en, ep) at h.fair)
 
     pub stack_moved :
         (cs ds : List FactRow) (m m' : ℕ) (fs : List ForkRow) → m ≤ m' → take m cs ≡ take m ds →
@@ -139,6 +110,6 @@ module _ (P : Plain) where
     top facts m fs [] f e no_fork = absurd (let q = ap length e in omega arith)
     top facts m fs (g ∷ gs) f e no_fork = absurd (let q = ap length e in omega arith)
     top facts m fs gs f e (over gs' f' q rest fit) =
-        let r = snoc_same gs' gs f' f (sym q ∙ e) in
+        let r = same_from_push gs' gs f' f (sym q ∙ e) in
         subst (λ (z : ForkRow). Top facts m gs z) r.1
         (subst (λ (z : List ForkRow). Stacked P facts c f'.facts z) r.0 rest, fit)

@@ -1,6 +1,7 @@
 -- Rows are granted exactly where they fit, and a sheet whose rows passed as they came is fair (`granted`).
 use Rattle.std.proofs.Common.{◌≡◌, ℕ, ◌<◌, List, [], ◌∷◌, map, length, take, drop, sym, ap, ◌∙◌, arith, take-append-drop, length-take}
 use Rattle.std.specs.List.{AllByRecursion}
+use Rattle.std.proofs.ByRecursion.{All-weaker}
 use Rattle.records.specs.declared.rows.Fact.{Fact as FactRow}
 use Rattle.records.specs.declared.rows.TermRow.{TermRow}
 use Rattle.meaning.specs.Terms.{Fact, names, FormFits}
@@ -21,11 +22,6 @@ as_it_came rows n t r l =
     ap (λ (x : List TermRow). row_ok x n t r) (sym (take-append-drop t rows))
     ∙ row_stays (take t rows) (drop t rows) n t r (omega (arith, length-take t rows))
 
--- what holds of each element is carried over
-all_to : {X : Type 0} (Q R : X → Type 0) → ((x : X) → Q x → R x) → (l : List X) → AllByRecursion Q l → AllByRecursion R l
-all_to Q R f [] h = tt
-all_to Q R f (x ∷ l) h = (f x h.0, all_to Q R f l h.1)
-
 -- the constraints read fit where the rows do
 forms_fit :
     (P : Plain) (n : ℕ) (fs : List FactRow) → AllByRecursion (FactFits P n) fs →
@@ -40,7 +36,7 @@ fair_when P h =
     λ t r e.
     (let l = below P.rows t r e in
     row_fits P t r (omega arith) (as_it_came P.rows (names (read_sheet P)) t r l ∙ h.rows t r e)) in
-    let facts = all_to _ (FactFits P n) (fact_fits P fits n) P.constraints h.constraints in
+    let facts = All-weaker _ (FactFits P n) (fact_fits P fits n) P.constraints h.constraints in
     record {
       sheet = record { rows_fit = fits; constraints_fit = forms_fit P n P.constraints facts };
       named = omega arith;
@@ -55,7 +51,7 @@ when_fair P h =
           (let l = below P.rows t r e in
           sym (as_it_came P.rows (names (read_sheet P)) t r l) ∙ row_passes P t r
           (h.sheet.rows_fit t r e));
-      constraints = all_to _ _ (fact_passes P (names (read_sheet P))) P.constraints h.facts_fit;
+      constraints = All-weaker _ _ (fact_passes P (names (read_sheet P))) P.constraints h.facts_fit;
     }
 
 pub granted : Granted

@@ -1,9 +1,11 @@
 -- A rule with alternatives is granted exactly where there is room for them: one alternative is appended, and
 -- of several the first, with a fork for the others (`grows`).
-use Rattle.std.proofs.Common.{◌≡◌, ℕ, zero, suc, ◌+◌, ◌<◌, ◌≤◌, Bool, true, false, cond, eqb, ltb, List, ◌++◌, length, set, Some, Ok, Err, Result, sym, refl, ap, ◌∙◌, subst, arith, length-set, ltb-false, ltb-true, eqb-true}
+use Rattle.std.proofs.Common.{◌≡◌, ℕ, ◌+◌, ◌<◌, ◌≤◌, Bool, true, false, cond, eqb, ltb, List, ◌++◌, length, set, Some, Ok, Err, Result, refl, ap, ◌∙◌, subst, arith, length-set, ltb-false, ltb-true, eqb-true}
 use mathlib.Core.Option.{Option}
 use Rattle.std.specs.List.{AllByRecursion, slice_get}
+use Rattle.std.proofs.lemmas.Bool.{both_ways, eqb-false}
 use Rattle.std.proofs.lemmas.List.{take_more_set}
+use Rattle.std.proofs.lemmas.Option.{slice_get_within}
 use Rattle.records.specs.declared.rows.Step.{Step}
 use Rattle.records.specs.declared.refusal.Refusal.{Refusal}
 use Rattle.records.specs.declared.refusal.Refusal.TheVariants.{NoRoom}
@@ -26,20 +28,14 @@ use Rattle.calls.specs.Sheets.{Counts}
 use Rattle.calls.specs.RuleSteps.{cited_again, forked, growing, codes_of, rows_of, branch_facts, forks_of, put_alt}
 use Rattle.calls.specs.Trials.{plain_of, branch_of}
 use Rattle.calls.specs.Views.{Whole}
-use Rattle.calls.proofs.Truth.{clash}
 use Rattle.calls.proofs.Bridge.{bridged}
 use Rattle.calls.proofs.Fitting.{room_told}
-use Rattle.calls.proofs.Fronts.{nth_low, put_front, put_length, put_below}
+use Rattle.calls.proofs.Fronts.{put_front, put_length, put_below}
 use Rattle.calls.proofs.Forks.{all_at_number}
 use Rattle.calls.proofs.Forking.{again, forking, made}
 use Rattle.calls.proofs.Landings.{adds_land, forks_land}
 use Rattle.calls.proofs.Rooms.{has_room, room_names, room_facts, room_forks}
 use Rattle.calls.proofs.Following.{open_forks, Right, live, facts_long, forks_long, lands_follow, refused, granted}
-
--- what is not zero is more
-some_left : (c : ℕ) → eqb c 0 ≡ false → 0 < c
-some_left zero e = clash (sym e)
-some_left (suc c) e = omega arith
 
 module _
     (t : Counts) (h : Held) (w : Whole t h) (un : t.verdict ≡ verdict.Undecided) (room : t.granted < 1000000)
@@ -62,7 +58,7 @@ module _
   first_has : (Q : AltRow → Type 0) → AllByRecursion Q rows → Q a
   first_has Q all =
       all_at_number Q (alternative_of y.rule y.cited t.names) (alternatives_of y.rule) 0 all
-      (some_left (alternatives_of y.rule) z₀)
+      (let n = eqb-false (alternatives_of y.rule) 0 z₀ in omega arith)
 
   first_names : Names → t.names + a.fresh ≤ 64
   first_names all = first_has (λ (z : AltRow). t.names + z.fresh ≤ 64) all
@@ -71,7 +67,7 @@ module _
   first_facts all = first_has (λ (z : AltRow). t.facts + length (alt_facts z) ≤ 1024) all
 
   all_fair : AllByRecursion (λ (z : AltRow). Fair (plain_of t h) (branch_facts t h ++ alt_facts z) (t.names + z.fresh)) rows
-  all_fair = bridged.3 K (plain_of t h) (branch_facts t h) t.names (live t h w un room).fair x y ep
+  all_fair = bridged.3 K (plain_of t h) (branch_facts t h) t.names (live t h w un).fair x y ep
 
   first_fair : Fair (plain_of t h) (branch_facts t h ++ alt_facts a) (t.names + a.fresh)
   first_fair =
@@ -83,9 +79,7 @@ module _
   with_room : Names → Facts → (2 ≤ alternatives_of y.rule → t.forks < 64) → HasRoom
   with_room names facts forks =
       has_room (plain_of t h) (branch_facts t h) t.names (forks_of t h) y.rule y.cited names
-      (subst (λ (k : ℕ). AllByRecursion (λ (z : AltRow). k + length (alt_facts z) ≤ 1024) rows)
-      (sym (facts_long t h w un room)) facts)
-      (λ l. subst (λ (k : ℕ). k < 64) (sym (forks_long t h w un room)) (forks l))
+      (rw (facts_long t h w) facts) (λ l. rw (forks_long t h w) (forks l))
 
   -- ── granted ──────────────────────────────────────────────────────────────
 
@@ -93,7 +87,6 @@ module _
       alternatives_of y.rule ≡ 1 → Names → Facts →
       Right K t h x (Ok (outcome.Adds (grown t.facts t.names a)))
   adds one names facts =
-      let big : 1024 ≤ length h.facts = w.enough.facts in
       let l = first_facts facts in
       granted t h w un room K x y ep (outcome.Adds (grown t.facts t.names a))
       (with_room names facts (λ l. absurd (omega arith)))
@@ -102,29 +95,27 @@ module _
       (put_below h.facts t.facts (facts_of a) t.constraints w.constraints_kept (omega arith))
       (put_front h.facts t.facts (facts_of a) (omega arith)) refl w.few_forks
       (adds_land (plain_of t h) t.constraints t.facts t.names (branch_facts t h) (forks_of t h)
-      (facts_long t h w un room) (live t h w un room).stacked w.constraints_kept y.rule y.cited a refl one
+      (facts_long t h w) (live t h w un).stacked w.constraints_kept y.rule y.cited a refl one
       (first_facts facts) (first_names names) first_fair))
 
   forks :
       eqb (alternatives_of y.rule) 1 ≡ false → t.forks < 64 → Names → Facts →
       Right K t h x (Ok (outcome.Forks (grown t.facts t.names a) (forked t y.rule x) (t.forks + 1)))
   forks z₁ few names facts =
-      let bigf : 1024 ≤ length h.facts = w.enough.facts in
-      let big : 64 ≤ length h.forks = w.enough.forks in
       let l = first_facts facts in
       let m = made K (codes_of t h) (rows_of t h) (branch_facts t h) x y ep in
       let two = forking y.rule z₀ z₁ in
-      let there : slice_get (branch_facts t h) x.p ≡ Some m.0 =
-      subst (λ (z : Bool). looked z (branch_facts t h) x.p ≡ Some m.0) two.0 m.2 in
+      let there : slice_get (branch_facts t h) x.p ≡ Some m.f =
+      subst (λ (z : Bool). looked z (branch_facts t h) x.p ≡ Some m.f) two.0 m.at_p in
       let low : x.p < t.facts =
-      subst (λ (k : ℕ). x.p < k) (facts_long t h w un room) (nth_low (branch_facts t h) x.p m.0 there) in
+      subst (λ (k : ℕ). x.p < k) (facts_long t h w) (slice_get_within (branch_facts t h) x.p m.f there) in
       let each :
       (i : ℕ) →
       alternative_of y.rule y.cited t.names i
-      ≡ alternative_of y.rule (cited_again (rows_of t h) m.0 x.t) t.names i =
+      ≡ alternative_of y.rule (cited_again (rows_of t h) m.f x.t) t.names i =
       λ i.
-      ap (λ (c : Cited). alternative_of y.rule c t.names i) m.3
-      ∙ again y.rule z₀ z₁ K (codes_of t h) (rows_of t h) x m.0 m.1 t.names i in
+      ap (λ (c : Cited). alternative_of y.rule c t.names i) m.cites
+      ∙ again y.rule z₀ z₁ K (codes_of t h) (rows_of t h) x m.f m.g t.names i in
       granted t h w un room K x y ep
       (outcome.Forks (grown t.facts t.names a) (forked t y.rule x) (t.forks + 1))
       (with_room names facts (λ l. few))
@@ -135,8 +126,8 @@ module _
       (put_front h.facts t.facts (facts_of a) (omega arith))
       (take_more_set h.forks t.forks (forked t y.rule x) (omega arith)) (omega arith)
       (forks_land (plain_of t h) t.constraints t.facts t.names (branch_facts t h) (forks_of t h)
-      (facts_long t h w un room) (live t h w un room).stacked w.constraints_kept y.rule y.cited a refl
-      two.1.0 two.1.1 x.p x.t m.0 there low each w.few_names (first_facts facts)
+      (facts_long t h w) (live t h w un).stacked w.constraints_kept y.rule y.cited a refl
+      two.1.0 two.1.1 x.p x.t m.f there low each w.few_names (first_facts facts)
       (first_names names) names facts all_fair first_fair))
 
   -- ── by the tests, in their order ─────────────────────────────────────────
@@ -159,12 +150,10 @@ module _
   at_forks false e z₁ names facts =
       refused t h w un room K x y ep (NoRoom over.Forks)
       (λ has.
-      (let l : 64 ≤ t.forks = ltb-false _ _ e in
-      let two = (forking y.rule z₀ z₁).1 in
-      let two_or_more : 2 ≤ alternatives_of y.rule = subst (λ (k : ℕ). 2 ≤ k) (sym two.1) (omega arith) in
-      let few : length (forks_of t h) < 64 =
-      room_forks (plain_of t h) (branch_facts t h) t.names (forks_of t h) y.rule y.cited has two_or_more in
-      let e = forks_long t h w un room in omega arith))
+      (let two = (forking y.rule z₀ z₁).1 in
+      let few =
+      room_forks (plain_of t h) (branch_facts t h) t.names (forks_of t h) y.rule y.cited has (omega (arith, two.1)) in
+      omega (arith, ltb-false _ _ e, few, forks_long t h w)))
 
   at_one :
       (b : Bool) → eqb (alternatives_of y.rule) 1 ≡ b → Names → Facts → Right K t h x (by_one b)
@@ -176,12 +165,11 @@ module _
   at_facts true e names =
       refused t h w un room K x y ep (NoRoom over.Facts)
       (λ has.
-      clash
-      (sym
+      both_ways _
       ((room_told.1 y.rule y.cited t.names t.facts w.few_facts).1
-      (subst (λ (k : ℕ). AllByRecursion (λ (z : AltRow). k + length (alt_facts z) ≤ 1024) rows) (facts_long t h w un room)
+      (rw (facts_long t h w) at
       (room_facts (plain_of t h) (branch_facts t h) t.names (forks_of t h) y.rule y.cited has)))
-      ∙ e))
+      e)
   at_facts false e names =
       at_one (eqb (alternatives_of y.rule) 1) refl names
       ((room_told.1 y.rule y.cited t.names t.facts w.few_facts).0 e)
@@ -193,11 +181,10 @@ module _
   at_names true e =
       refused t h w un room K x y ep (NoRoom over.Names)
       (λ has.
-      clash
-      (sym
+      both_ways _
       ((room_told.0 y.rule y.cited t.names w.few_names).1
       (room_names (plain_of t h) (branch_facts t h) t.names (forks_of t h) y.rule y.cited has))
-      ∙ e))
+      e)
   at_names false e =
       at_facts (facts_over y.rule y.cited t.names t.facts) refl
       ((room_told.0 y.rule y.cited t.names w.few_names).0 e)

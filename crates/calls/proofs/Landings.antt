@@ -1,6 +1,6 @@
 -- The facts and forks that a rule leaves, as lists, read as the state that its alternatives bring, and fit
 -- again: one alternative (`adds_land`), several (`forks_land`), a fork resumed (`resume_lands`).
-use Rattle.std.proofs.Common.{◌≡◌, ℕ, suc, ◌+◌, ◌-◌, ◌<◌, ◌≤◌, Bool, true, false, cond, ltb, List, [], ◌∷◌, ◌++◌, map, length, take, Some, Option as Maybe, sym, refl, ap, ◌∙◌, subst, arith, length-take, ltb-false, ltb-true, lt-ltb}
+use Rattle.std.proofs.Common.{◌≡◌, ℕ, suc, ◌+◌, ◌-◌, ◌<◌, ◌≤◌, Bool, true, false, cond, ltb, List, [], ◌∷◌, ◌++◌, map, length, take, Some, sym, refl, ap, ◌∙◌, subst, arith, length-take, ltb-false, ltb-true, lt-ltb}
 use Rattle.std.specs.List.{AllByRecursion, slice_get}
 use Rattle.std.proofs.lemmas.List.{map-append, take_all, take-take, take-append-le}
 use Rattle.records.specs.declared.rows.Fact.{Fact as FactRow}
@@ -54,7 +54,7 @@ module _
   branch_grown :
       (a : AltRow) →
       read_branch P (F ++ facts_of a) (n + a.fresh) ≡ extend (read_branch P F n) (read_alt P.rows a)
-  branch_grown a = λ i. record { facts = map-append (read_fact P.rows) F (facts_of a) i; count = n + a.fresh }
+  branch_grown a = cc (map-append (read_fact P.rows) F (facts_of a))
 
   -- one alternative
   pub adds_land :
@@ -64,12 +64,10 @@ module _
       (m + size_of a) (n + a.fresh) (F ++ facts_of a) G
   adds_land r q a ea one lm ln fair =
       let alts : map (read_alt P.rows) (alt_rows r q n) ≡ read_alt P.rows a ∷ [] =
-      ap (λ (k : ℕ). map (read_alt P.rows) (map (alternative_of r q n) (up_from 0 k))) one
-      ∙ ap (λ (z : AltRow). read_alt P.rows z ∷ []) ea in
+      cc (one, ea) in
       record {
         reads =
-            (λ i. running (branch_grown a i) (forks_stay a i))
-            ∙ ap (λ (z : List Alt). apply (read_branch P F n) z (read_forks P F G [])) (sym alts);
+            cc (branch_grown a, forks_stay a, alts);
         fair = fair;
         stacked = stack_moved P c F (F ++ facts_of a) m (m + size_of a) G (omega arith) (front_stays a) st;
         few_facts = lm;
@@ -89,8 +87,7 @@ module _
     each_again :
         (i : ℕ) → alternative_of r q n i ≡ alternative_of r (cited_at P (F ++ facts_of a) (new_fork m n r p t)) n i
     each_again i =
-        each i
-        ∙ ap (λ (z : Maybe FactRow). alternative_of r (cited_again P.rows (or_none z) t) n i) still_there
+        cc (each i, still_there)
 
     rows_again : alt_rows r q n ≡ alt_rows r (cited_at P (F ++ facts_of a) (new_fork m n r p t)) n
     rows_again = map_same _ _ each_again (up_from 0 (alternatives_of r))
@@ -147,8 +144,7 @@ module _
         (m + size_of a) (n + a.fresh) (F ++ facts_of a) (G ++ (new_fork m n r p t ∷ []))
     forks_land few lm ln names_fit facts_fit all_fair fair = record {
       reads =
-          (λ i. running (branch_grown a i) (fork_reads i))
-          ∙ ap (λ (z : List Alt). apply (read_branch P F n) z (read_forks P F G [])) (sym alts_again);
+          cc (branch_grown a, fork_reads, alts_again);
       fair = fair;
       stacked =
           over G (new_fork m n r p t) refl
@@ -163,9 +159,7 @@ module _
             facts_fit = all_again (λ (z : AltRow). m + length (alt_facts z) ≤ 1024) facts_fit;
             fair =
                 all_again (λ (z : AltRow). Fair P (take m (F ++ facts_of a) ++ alt_facts z) (n + z.fresh))
-                (subst
-                (λ (y : List FactRow). AllByRecursion (λ (z : AltRow). Fair P (y ++ alt_facts z) (n + z.fresh)) (alt_rows r q n))
-                (sym front_is) all_fair);
+                (rw front_is all_fair);
           });
       few_facts = lm;
       few_names = ln;
@@ -194,9 +188,7 @@ module _
 
   next_step : (onward f).next ≡ f.next + 1
   next_step =
-      let few = few_alternatives f.rule in
-      let left : f.next < alternatives_of f.rule = fit.left in
-      ap (λ (b : Bool). cond b (f.next + 1) 3) (lt-ltb f.next 3 (omega arith))
+      ap (λ (b : Bool). cond b (f.next + 1) 3) (lt-ltb f.next 3 (omega (arith, few_alternatives f.rule)))
 
   -- the front of the fork, and the facts after its next alternative
   abbrev cut : List FactRow
@@ -206,7 +198,7 @@ module _
   after = take f.facts F ++ facts_of next_of
 
   cut_long : f.facts ≤ length cut
-  cut_long = let l : f.facts ≤ m = fit.front in omega (arith, length-take f.facts F)
+  cut_long = omega (arith, length-take f.facts F)
 
   front_kept : take f.facts F ≡ take f.facts after
   front_kept =
@@ -220,10 +212,7 @@ module _
       read_branch P after (f.names + next_of.fresh)
       ≡ extend (read_branch P cut f.names) (read_alt P.rows next_of)
   after_reads =
-      λ i. record {
-        facts = map-append (read_fact P.rows) cut (facts_of next_of) i;
-        count = f.names + next_of.fresh;
-      }
+      cc (map-append (read_fact P.rows) cut (facts_of next_of))
 
   -- the alternatives after the next, read
   abbrev later_from : List ℕ → List Alt
@@ -249,7 +238,7 @@ module _
       ∙ (λ i. running (after_reads i) (read_fork P after (onward f) ∷ others_kept i))
       ∙ (λ i. running (extend (read_branch P cut f.names) (read_alt P.rows next_of))
       (fork_with P
-      (record { facts = f.facts; names = f.names; rule = f.rule; p = f.p; t = f.t; next = next_step i })
+      (record f { next = next_step i })
       (sym front_kept i) (cited_again P.rows (or_none (sym ep i)) f.t)
       ∷ read_forks P F G []))
       ∙ ap
@@ -274,16 +263,7 @@ module _
       let own = fits_moved P c F F m f.facts f (omega arith) refl fit in
       let fit' = fits_moved P c F after f.facts (f.facts + size_of next_of) f (omega arith) front_kept own in
       over G (onward f) refl (stack_moved P c F after f.facts f.facts G (omega arith) front_kept st)
-      (record {
-        front = fit'.front;
-        constraints_below = fit'.constraints_below;
-        cites_below = fit'.cites_below;
-        few_names = fit'.few_names;
-        left = ltb-true _ _ q;
-        names_fit = fit'.names_fit;
-        facts_fit = fit'.facts_fit;
-        fair = fit'.fair;
-      })
+      (search (ltb-true _ _ q))
   resumed_stacked false q =
       stack_moved P c F after f.facts (f.facts + size_of next_of) G (omega arith) front_kept st
 
@@ -292,9 +272,8 @@ module _
       Lands P c (resume (read_forks P F (G ++ (f ∷ [])) [])) (f.facts + size_of next_of)
       (f.names + next_of.fresh) (take f.facts F ++ facts_of next_of) (left_forks b)
   resume_lands b q =
-      let below : c ≤ f.facts = fit.constraints_below in
       record {
-        reads = resumed_reads b q ∙ sym (ap resume (forks_more P F G f []));
+        reads = cc (resumed_reads b q, forks_more P F G f []);
         fair = next_has (λ (z : AltRow). Fair P (take f.facts F ++ alt_facts z) (f.names + z.fresh)) fit.fair;
         stacked = resumed_stacked b q;
         few_facts = next_few_facts;

@@ -1,21 +1,29 @@
 -- Every name passes its test exactly where the representatives are lawful: `lawful_exact`.
-use Rattle.std.proofs.Common.{◌≡◌, ℕ, ◌<◌, ◌≤◌, true, not, ◌&&◌, ◌||◌, eqb, leb, ◌↔◌, List, length, sym, refl, ap, ◌∙◌, arith, eq-eqb, eqb-true, le-leb, leb-false, leb-true}
+use Rattle.std.proofs.Common.{◌≡◌, ℕ, ◌<◌, ◌≤◌, Bool, true, false, not, ◌&&◌, ◌||◌, eqb, leb, ◌↔◌, List, length, sym, refl, ap, ◌∙◌, arith, eq-eqb, eqb-true, le-leb, leb-false, leb-true}
+use Rattle.std.proofs.lemmas.Bool.{and_from, and_parts, not-false, not_from_true}
 use mathlib.Core.Option.{Option, none, some}
 use borrow.Author.Tests.{lt-leb}
 use lib.ListN.{get_elem?}
+use Rattle.std.proofs.lemmas.Bool.{both_ways, not-true, not_from_false, false_from_ne_true}
 use Rattle.meaning.specs.Terms.{Sheet}
 use Rattle.meaning.specs.Meaning.{CodeMeaning, Bears}
 use Rattle.meaning.specs.Model.{rep, SameLabel, Lawful}
 use Rattle.calls.specs.Models.{first_bad, value_of, label_value, same_value, same_label}
 use Rattle.calls.specs.Models.{not_taken, none_lower, label_lawful, name_lawful}
-use Rattle.calls.proofs.Flags.{clash, and_split, and_join, or_right, or_join}
-use Rattle.calls.proofs.Flags.{not_of, of_not, not_both, both_not}
-use Rattle.calls.proofs.Below.{no_clash, each_true, true_each, none_bad, all_good}
+use Rattle.calls.proofs.Below.{each_true, true_each, none_bad, all_good}
+
+or_right : (a b : Bool) → (a || b) ≡ true → a ≡ false → b ≡ true
+or_right true b h e = absurd cc
+or_right false b h e = h
+
+or_join : (a b : Bool) → (a ≡ false → b ≡ true) → (a || b) ≡ true
+or_join true b f = refl
+or_join false b f = f refl
 
 -- equal values, if both are there
 values_same : (a b : Option ℕ) → same_value a b ≡ true → (x : ℕ) × (a ≡ some x) × (b ≡ some x)
-values_same none b h = clash h
-values_same (some x) none h = clash h
+values_same none b h = absurd cc
+values_same (some x) none h = absurd cc
 values_same (some x) (some y) h = (x, refl, ap (λ (z : ℕ). some z) (sym (eqb-true x y h)))
 
 same_values : (a b : Option ℕ) (x : ℕ) → a ≡ some x → b ≡ some x → same_value a b ≡ true
@@ -27,7 +35,7 @@ module _ (K : CodeMeaning) (S : Sheet) where
   bears e x h = go (get_elem? S.codes e) refl h
     where
       go : (o : Option ℕ) → get_elem? S.codes e ≡ o → value_of K o ≡ some x → Bears K S e x
-      go none q h = no_clash (sym h)
+      go none q h = absurd cc
       go (some c) q h = (c, q, h)
 
   borne : (e x : ℕ) → Bears K S e x → label_value K S e ≡ some x
@@ -49,15 +57,15 @@ module _ (K : CodeMeaning) (S : Sheet) where
     pub lower_none : (e k : ℕ) → none_lower K S rs e k ≡ true →
         (d : ℕ) → d < k → rep rs d ≡ d → ¬ (SameLabel K S d e)
     lower_none e k h d l q s =
-        not_both (eqb (rep rs d) d) (same_label K S d e) (each_true (not_taken K S rs e) k d h l)
-        (eq-eqb (rep rs d) d q) (same_labels d e s)
+        both_ways _ (not-true _ (each_true (not_taken K S rs e) k d h l))
+        (and_from _ _ (eq-eqb (rep rs d) d q) (same_labels d e s))
 
     pub none_lower_is : (e k : ℕ) → ((d : ℕ) → d < k → rep rs d ≡ d → ¬ (SameLabel K S d e)) →
         none_lower K S rs e k ≡ true
     none_lower_is e k h =
         true_each (not_taken K S rs e) k
-        (λ d l. both_not (eqb (rep rs d) d) (same_label K S d e)
-        (λ p q. h d l (eqb-true (rep rs d) d p) (label_same d e q)))
+        (λ d l. not_from_false _ (false_from_ne_true _
+        (λ q. let r = and_parts _ _ q in h d l (eqb-true (rep rs d) d r.0) (label_same d e r.1))))
 
     -- what the test of a name says
     pub record Passes (e : ℕ) : Type 0 where
@@ -69,13 +77,13 @@ module _ (K : CodeMeaning) (S : Sheet) where
 
     pub passes : (e : ℕ) → name_lawful K S rs e ≡ true → Passes e
     passes e h =
-        let r = and_split (leb (rep rs e) e)
+        let r = and_parts (leb (rep rs e) e)
         (eqb (rep rs (rep rs e)) (rep rs e) && (leb (length S.codes) e || label_lawful K S rs e)) h in
-        let f = and_split (eqb (rep rs (rep rs e)) (rep rs e))
+        let f = and_parts (eqb (rep rs (rep rs e)) (rep rs e))
         (leb (length S.codes) e || label_lawful K S rs e) r.1 in
         let tested : e < length S.codes →
         (same_label K S e (rep rs e) ≡ true) × ((not (eqb (rep rs e) e) || none_lower K S rs e e) ≡ true) =
-        λ l. and_split (same_label K S e (rep rs e)) (not (eqb (rep rs e) e) || none_lower K S rs e e)
+        λ l. and_parts (same_label K S e (rep rs e)) (not (eqb (rep rs e) e) || none_lower K S rs e e)
         (or_right (leb (length S.codes) e) (label_lawful K S rs e) f.1
         (lt-leb (length S.codes) e l)) in
         record {
@@ -84,18 +92,18 @@ module _ (K : CodeMeaning) (S : Sheet) where
           label = λ l. label_same e (rep rs e) (tested l).0;
           lowest = λ l q. lower_none e e
               (or_right (not (eqb (rep rs e) e)) (none_lower K S rs e e) (tested l).1
-              (not_of (eqb (rep rs e) e) (eq-eqb (rep rs e) e q)));
+              (not_from_true (eqb (rep rs e) e) (eq-eqb (rep rs e) e q)));
         }
 
     pub passed : (e : ℕ) → Passes e → name_lawful K S rs e ≡ true
     passed e p =
-        and_join (leb (rep rs e) e) _ (le-leb (rep rs e) e p.low)
-        (and_join (eqb (rep rs (rep rs e)) (rep rs e)) _ (eq-eqb (rep rs (rep rs e)) (rep rs e) p.fixed)
+        and_from (leb (rep rs e) e) _ (le-leb (rep rs e) e p.low)
+        (and_from (eqb (rep rs (rep rs e)) (rep rs e)) _ (eq-eqb (rep rs (rep rs e)) (rep rs e) p.fixed)
         (or_join (leb (length S.codes) e) (label_lawful K S rs e)
         (λ q. let l : e < length S.codes = leb-false (length S.codes) e q in
-        and_join (same_label K S e (rep rs e)) _ (same_labels e (rep rs e) (p.label l))
+        and_from (same_label K S e (rep rs e)) _ (same_labels e (rep rs e) (p.label l))
         (or_join (not (eqb (rep rs e) e)) (none_lower K S rs e e)
-        (λ n. none_lower_is e e (p.lowest l (eqb-true (rep rs e) e (of_not (eqb (rep rs e) e) n))))))))
+        (λ n. none_lower_is e e (p.lowest l (eqb-true (rep rs e) e (not-false (eqb (rep rs e) e) n))))))))
 
     pub lawful_exact : (n : ℕ) → length rs ≡ n → length S.codes ≤ n →
         (first_bad (name_lawful K S rs) n ≡ none) ↔ Lawful K S n rs

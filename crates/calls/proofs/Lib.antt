@@ -18,7 +18,6 @@ pub mod Exact
 pub mod Stays
 pub mod Granted
 pub mod Fitting
-pub mod Flags
 pub mod Below
 pub mod Lawful
 pub mod Once
@@ -30,7 +29,6 @@ pub mod Listed
 pub mod Vectors
 pub mod Runs
 pub mod Bytes
-pub mod OneMore
 pub mod Enough
 pub mod Filled
 pub mod MakeExact

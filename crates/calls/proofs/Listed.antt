@@ -1,9 +1,10 @@
 -- The lines that are listed from numbers and stores are the subject's listing of the trial read from them
 -- (`listing_exact`).
-use Rattle.std.proofs.Common.{◌≡◌, ℕ, zero, suc, Bool, true, false, cond, ◌&&◌, eqb, ltb, List, [], ◌∷◌, ◌++◌, map, length, take, sym, refl, ap, ◌∙◌, inl, inr, arith}
+use Rattle.std.proofs.Common.{◌≡◌, ℕ, zero, suc, Bool, true, false, cond, ◌&&◌, eqb, ltb, List, [], ◌∷◌, ◌++◌, map, length, take, sym, refl, ap, ◌∙◌, arith}
 use lib.ListN.{get_elem?}
 use Rattle.std.specs.List.{flat_map}
-use Rattle.std.proofs.lemmas.Bool.{le-ltb, lt-ltb, cases_lt}
+use Rattle.std.proofs.lemmas.Grind.{common_steps}
+use Rattle.std.proofs.lemmas.Bool.{le-ltb, lt-ltb}
 use Rattle.records.specs.declared.rows.Fact.{Fact as FactRow}
 use Rattle.records.specs.declared.rows.TermRow.{TermRow}
 use Rattle.records.specs.declared.verdict.Verdict.{Verdict}
@@ -34,15 +35,8 @@ other_op :
     (cond b5 (diff x y)
     (cond b6 (transp x) (cond b7 (prod x y) (cond b8 (join x y) (closure x)))))))))
     ≡ false
-other_op true b2 b3 b4 b5 b6 b7 b8 x y v = refl
-other_op false true b3 b4 b5 b6 b7 b8 x y v = refl
-other_op false false true b4 b5 b6 b7 b8 x y v = refl
-other_op false false false true b5 b6 b7 b8 x y v = refl
-other_op false false false false true b6 b7 b8 x y v = refl
-other_op false false false false false true b7 b8 x y v = refl
-other_op false false false false false false true b8 x y v = refl
-other_op false false false false false false false true x y v = refl
 other_op false false false false false false false false x y v = refl
+other_op _ _ _ _ _ _ _ _ x y v = refl
 
 -- the operation with the number 0 is the variable
 variable_op : (k x y : ℕ) (v : List ℕ) → is_variable (op_of k x y v) ≡ eqb k 0
@@ -74,11 +68,7 @@ variable_row (r ∷ rows) (suc t) =
     variable_row rows t ∙ ap (λ b. b && eqb (row_at rows t).op 0) (less (length rows))
   where
     less : (n : ℕ) → ltb t n ≡ ltb (suc t) (suc n)
-    less n =
-        elim (cases_lt t n) [
-          | inl h ↦ lt-ltb t n h ∙ sym (lt-ltb (suc t) (suc n) (omega arith))
-          | inr h ↦ le-ltb t n h ∙ sym (le-ltb (suc t) (suc n) (omega arith))
-        ]
+    less n = grind (arith, common_steps)
 
 module _ (rs : List ℕ) (rows : List TermRow) (S : Sheet) (same_rows : S.rows ≡ map read_row rows) where
   -- one fact, by its sign and its form's tests

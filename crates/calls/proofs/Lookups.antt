@@ -1,14 +1,15 @@
--- Entries of lists: of mapped lists (`unmap`, `remap`), by default (`got`, `there`), by either option type.
-use Rattle.std.proofs.Common.{◌≡◌, ℕ, zero, suc, ◌<◌, List, [], ◌∷◌, ◌++◌, map, length, get_or, Some, refl, ap, subst, arith}
+-- Entries of lists: of mapped lists (`unmap`, `remap`), and by default (`got`, `there`).
+use Rattle.std.proofs.Common.{◌≡◌, ℕ, zero, suc, ◌<◌, List, [], ◌∷◌, map, length, get_or, refl}
 use mathlib.Core.Option.{some, some-injective}
 use lib.ListN.{get_elem?}
-use Rattle.std.specs.List.{AllByRecursion, slice_get}
+use Rattle.std.proofs.lemmas.Option.{get_or_from_slice_get, slice_get-get_or}
+pub use Rattle.meaning.proofs.Lookups.{below, all_at, same_entry}
 
 -- an entry of a mapped list comes from an entry
 pub unmap :
     {X Y : Type 0} (f : X → Y) (l : List X) (i : ℕ) (y : Y) → get_elem? (map f l) i ≡ some y →
     (x : X) × (get_elem? l i ≡ some x) × (f x ≡ y)
-unmap f [] i y e = absurd (let z : ◌≡◌ {A = ℕ} 0 1 = cc in omega arith)
+unmap f [] i y e = absurd cc
 unmap f (x ∷ l) zero y e = (x, refl, some-injective _ _ e)
 unmap f (x ∷ l) (suc i) y e = unmap f l i y e
 
@@ -16,15 +17,13 @@ unmap f (x ∷ l) (suc i) y e = unmap f l i y e
 pub remap :
     {X Y : Type 0} (f : X → Y) (l : List X) (i : ℕ) (x : X) → get_elem? l i ≡ some x → get_elem? (map f l) i ≡
     some (f x)
-remap f [] i x e = absurd (let z : ◌≡◌ {A = ℕ} 0 1 = cc in omega arith)
-remap f (y ∷ l) zero x e = ap (λ (z : _). some (f z)) (some-injective _ _ e)
+remap f [] i x e = absurd cc
+remap f (y ∷ l) zero x e = cc
 remap f (y ∷ l) (suc i) x e = remap f l i x e
 
 -- an entry that is there is the one by default
 pub got : {X : Type 0} (l : List X) (i : ℕ) (d x : X) → get_elem? l i ≡ some x → get_or l i d ≡ x
-got [] i d x h = absurd (let z : ◌≡◌ {A = ℕ} 0 1 = cc in omega arith)
-got (y ∷ l) zero d x h = cc
-got (y ∷ l) (suc i) d x h = got l i d x h
+got l i d x h = get_or_from_slice_get l i x d ((same_entry l i x).0 h)
 
 -- an entry that is not the default is there
 pub there :
@@ -37,37 +36,4 @@ there (x ∷ l) (suc i) d k h = there l i d k h
 
 -- an entry below the length is there
 pub there_at : {X : Type 0} (l : List X) (i : ℕ) (d : X) → i < length l → get_elem? l i ≡ some (get_or l i d)
-there_at [] i d h = absurd (omega arith)
-there_at (x ∷ l) zero d h = refl
-there_at (x ∷ l) (suc i) d h = there_at l i d (omega arith)
-
--- an entry that is there is below the length
-pub below : {X : Type 0} (l : List X) (i : ℕ) (x : X) → get_elem? l i ≡ some x → i < length l
-below [] i x e = absurd (let z : ◌≡◌ {A = ℕ} 0 1 = cc in omega arith)
-below (y ∷ l) zero x e = omega arith
-below (y ∷ l) (suc i) x e = let h = below l i x e in omega arith
-
--- an entry is still there before more entries
-pub ahead :
-    {X : Type 0} (l more : List X) (i : ℕ) (x : X) → get_elem? l i ≡ some x → get_elem? (l ++ more) i ≡ some x
-ahead [] more i x e = absurd (let z : ◌≡◌ {A = ℕ} 0 1 = cc in omega arith)
-ahead (y ∷ l) more zero x e = e
-ahead (y ∷ l) more (suc i) x e = ahead l more i x e
-
--- what holds of all entries holds of one that is there
-pub all_at :
-    {X : Type 0} (Q : X → Type 0) (l : List X) (i : ℕ) (x : X) → AllByRecursion Q l → get_elem? l i ≡ some x → Q x
-all_at Q [] i x h e = absurd (let z : ◌≡◌ {A = ℕ} 0 1 = cc in omega arith)
-all_at Q (y ∷ l) zero x h e = subst Q (some-injective _ _ e) h.0
-all_at Q (y ∷ l) (suc i) x h e = all_at Q l i x h.1 e
-
--- the two option types say the same
-pub to_nth : {X : Type 0} (l : List X) (i : ℕ) (x : X) → get_elem? l i ≡ some x → slice_get l i ≡ Some x
-to_nth [] i x e = absurd (let z : ◌≡◌ {A = ℕ} 0 1 = cc in omega arith)
-to_nth (y ∷ l) zero x e = ap Some (some-injective _ _ e)
-to_nth (y ∷ l) (suc i) x e = to_nth l i x e
-
-pub of_nth : {X : Type 0} (l : List X) (i : ℕ) (x : X) → slice_get l i ≡ Some x → get_elem? l i ≡ some x
-of_nth [] i x e = absurd (let z : ◌≡◌ {A = ℕ} 0 1 = cc in omega arith)
-of_nth (y ∷ l) zero x e = cc
-of_nth (y ∷ l) (suc i) x e = of_nth l i x e
+there_at l i d h = (same_entry l i (get_or l i d)).1 (slice_get-get_or l i d h)

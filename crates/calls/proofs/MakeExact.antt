@@ -1,7 +1,8 @@
 -- make runs exactly as the subject has it (`make_exact`).
 use Rattle.std.proofs.Common.{◌≡◌, ℕ, ◌+◌, Bool, true, false, cond, eqb, leb, List, Some, None, Ok, Err, Option, sym, refl, subst, arith, eq-eqb, eqb-true, le-leb, leb-true}
+use Rattle.std.proofs.lemmas.Bool.{and_from, and_parts}
 use borrow.Author.Tests.{both_ways}
-use Rattle.records.specs.declared.refusal.Refusal.TheVariants.{StoresShort, WrongLetter, OverLimit}
+use Rattle.records.specs.declared.refusal.Refusal.TheVariants.{WrongLetter, OverLimit}
 use Rattle.records.specs.declared.rows.Header.{Header as HeaderRow}
 use Rattle.records.specs.Reading.{header_in}
 use Rattle.meaning.specs.Mixes.{Header, Made}
@@ -9,7 +10,6 @@ use Rattle.calls.specs.Stores.{Held, Enough}
 use Rattle.calls.specs.Sheets.{within, empty_sheet, make_headed}
 use Rattle.calls.specs.Views.{Orderly, plain_in}
 use Rattle.calls.specs.Exact.{MakeExact, MakeIsExact}
-use Rattle.calls.proofs.Truth.{and_split, and_true}
 use Rattle.calls.proofs.Bytes.{HeaderTold, header_told}
 use Rattle.calls.proofs.Enough.{enough_holds}
 use Rattle.calls.proofs.Filled.{none_passed}
@@ -28,43 +28,31 @@ agrees : (letter : ℕ) (bs : List ℕ) (H : Header) → Made letter bs H → Ag
 agrees letter bs H m =
     subst (λ (l : List ℕ). Agrees letter (header_in l)) (sym m.bytes) (
       eq-eqb _ _ m.the_kinds,
-      and_true (le-leb _ _ m.names_fit) (and_true (le-leb _ _ m.terms_fit) (le-leb _ _ m.constraints_fit)),
+      and_from _ _ (le-leb _ _ m.names_fit) (and_from _ _ (le-leb _ _ m.terms_fit) (le-leb _ _ m.constraints_fit)),
     )
 
 module _ (letter : ℕ) (h : Held) (bs : List ℕ) (b : Enough h) where
   -- the empty sheet of a header
   begun : (G : HeaderRow) → within G ≡ true → Orderly (empty_sheet G) h
   begun G e =
-      let p = and_split (leb (G.labels + G.free) 32) _ e in
-      let q = and_split (leb G.terms 64) (leb G.constraints 128) p.1 in
-      record {
-        enough = b;
-        few_names = leb-true _ _ p.0;
-        few_terms = leb-true _ _ q.0;
-        few_constraints = leb-true _ _ q.1;
-        labels_due = omega arith;
-        terms_due = omega arith;
-        constraints_due = omega arith;
-        labels_first = λ l. absurd (omega arith);
-        terms_first = λ l. absurd (omega arith);
-        passed = none_passed (plain_in (empty_sheet G) h) refl refl;
-      }
+      let p = and_parts (leb (G.labels + G.free) 32) _ e in
+      let q = and_parts (leb G.terms 64) (leb G.constraints 128) p.1 in
+      search (arith, leb-true _ _ p.0, leb-true _ _ q.0, leb-true _ _ q.1, none_passed (plain_in (empty_sheet G) h) refl refl)
 
   by_within :
       (G : HeaderRow) → header_in bs ≡ Some G → HeaderTold bs (Some G) → eqb G.letter letter ≡ true →
       (z : Bool) → within G ≡ z → MakeExact letter h bs (cond z (Ok (empty_sheet G)) (Err OverLimit))
   by_within G e told el true ew =
-      let p = and_split (leb (G.labels + G.free) 32) _ ew in
-      let q = and_split (leb G.terms 64) (leb G.constraints 128) p.1 in (
-        begun G ew,
+      let o = begun G ew in (
+        o,
         (
           subjects G,
           record {
             bytes = told;
             the_kinds = eqb-true _ _ el;
-            names_fit = leb-true _ _ p.0;
-            terms_fit = leb-true _ _ q.0;
-            constraints_fit = leb-true _ _ q.1;
+            names_fit = o.few_names;
+            terms_fit = o.few_terms;
+            constraints_fit = o.few_constraints;
           },
           refl,
         ),
@@ -87,5 +75,4 @@ module _ (letter : ℕ) (h : Held) (bs : List ℕ) (b : Enough h) where
 
 pub make_exact : MakeIsExact
 make_exact letter h bs b =
-    subst (λ (z : Bool). MakeExact letter h bs (cond z (make_headed letter (header_in bs)) (Err StoresShort)))
-    (sym (enough_holds h b)) (by_header letter h bs b (header_in bs) refl (header_told bs))
+    rw (enough_holds h b) (by_header letter h bs b (header_in bs) refl (header_told bs))

@@ -1,6 +1,6 @@
 -- A model is granted exactly where the subject has a case for its bytes, given that its answer is right
 -- (`model_step_exact`); with that, every step is (`step_exact`).
-use Rattle.std.proofs.Common.{◌≡◌, ℕ, ◌+◌, ◌<◌, ◌≤◌, Bool, true, false, cond, eqb, leb, ◌⊎◌, ◌↔◌, List, ◌∷◌, length, drop, Ok, Err, Result, sym, refl, ap, ◌∙◌, subst, inl, inr, arith, length-append, length-drop, eqb-true, le-leb, leb-false, leb-true}
+use Rattle.std.proofs.Common.{◌≡◌, ℕ, ◌<◌, ◌≤◌, Bool, true, false, cond, eqb, leb, ◌↔◌, List, ◌∷◌, length, drop, Ok, Err, Result, sym, refl, ap, ◌∙◌, subst, ⊎_elim, arith, length-append, length-drop, eqb-true, leb-false, leb-true}
 use mathlib.Core.Option.{Option}
 use borrow.Author.Tests.{eqb-false}
 use Rattle.std.proofs.lemmas.List.{take_at}
@@ -16,28 +16,17 @@ use Rattle.meaning.specs.Model.{Lawful, Named}
 use Rattle.meaning.specs.Mixes.{most_tuples, OPEN, Few, trying, Grants, model_step}
 use Rattle.meaning.specs.Mixes as subject
 use Rattle.calls.specs.Reading.{read_sheet}
-use Rattle.calls.specs.Stores.{Held, Enough, enough}
+use Rattle.calls.specs.Stores.{Held, enough}
 use Rattle.calls.specs.Sheets.{Counts}
 use Rattle.calls.specs.RuleSteps.{Stepped, left_denied}
 use Rattle.calls.specs.Models.{model_answer}
 use Rattle.calls.specs.Trials.{plain_of, branch_of, opened, model_done, moved_on, stepped_at}
-use Rattle.calls.specs.Views.{Live, LiveBy, read_trial, Whole}
+use Rattle.calls.specs.Views.{read_trial, Whole}
 use Rattle.calls.specs.Exact.{StepExact, StepIsExact}
-use Rattle.calls.proofs.Truth.{clash, and_true}
-use Rattle.calls.proofs.Forking.{refused_not}
-use Rattle.calls.proofs.Following.{open_forks}
-use Rattle.calls.proofs.StepCases.{
-  ByRule,
-  ByModel,
-  told,
-  rule_reads,
-  model_reads,
-  read_model,
-  model_same,
-  rule_not_model,
-}
+use Rattle.calls.proofs.Enough.{enough_holds}
+use Rattle.calls.proofs.Following.{live}
+use Rattle.calls.proofs.StepCases.{ByModel, told, rule_is, model_is, read_model}
 use Rattle.calls.proofs.StepsExact.{
-  running_same,
   left,
   spent,
   runs,
@@ -71,12 +60,9 @@ module _
       Few (read_sheet (plain_of t h)) rs (branch_of t h).facts most_tuples ×
       Satisfies (read_sheet (plain_of t h)) (Named (read_sheet (plain_of t h)) rs (branch_of t h).facts)
 
-  live : Live t h
-  live = subst (λ (v : Verdict). LiveBy v t h) un w.live
-
   few_codes : length (read_sheet (plain_of t h)).codes ≤ t.names
   few_codes =
-      let l : length (read_sheet (plain_of t h)).codes + t.free ≤ t.names = live.fair.named in omega arith
+      omega (arith, (live t h w un).fair.named)
 
   exactly :
       length rs ≡ n →
@@ -89,81 +75,43 @@ module _
   -- a model that is granted keeps all, and its representatives are read back from their store
   opens : length rs ≡ n → t.granted < 1000000 → Passes → LeftExact (opened t h rs)
   opens l room p =
-      let big : 64 ≤ length h.representatives = w.enough.representatives in
       let at : length rs ≡ t.names = p.0.count in (
-        record {
-          enough = record {
-            labels = w.enough.labels;
-            terms = w.enough.terms;
-            facts = w.enough.facts;
-            forks = w.enough.forks;
-            tuples = w.enough.tuples;
-            representatives =
-                omega (
-                  arith,
-                  length-append rs (drop (length rs) h.representatives),
-                  length-drop (length rs) h.representatives,
-                );
-          };
-          few_sheet_names = w.few_sheet_names;
-          few_terms = w.few_terms;
-          few_constraints = w.few_constraints;
-          few_names = w.few_names;
-          few_facts = w.few_facts;
-          few_forks = w.few_forks;
-          few_granted = omega arith;
-          constraints_kept = w.constraints_kept;
-          good = w.good;
-          live = record { fair = live.fair; stacked = live.stacked };
-        },
-        subst
-            (λ (z : List ℕ). Grants K (trying (read_trial t h)) (subject.step z)
-            (trying (read_trial (opened t h rs).trial (opened t h rs).stores)))
-            (sym (read_model bs n rs e))
+        search (
+          arith,
+          length-append rs (drop (length rs) h.representatives),
+          length-drop (length rs) h.representatives,
+          (live t h w un).fair,
+          (live t h w un).stacked,
+        ),
+        rw (read_model bs n rs e)
             (subst
             (λ (z : subject.Trial). Grants K (trying (read_trial t h)) (subject.step (77 ∷ 68 ∷ n ∷ rs)) (trying z))
-            (λ i. record {
-              sheet = read_sheet (plain_of t h);
-              state = runs K t h bs w un i;
-              granted = t.granted + 1;
-              denied = t.denied;
-              verdict = OPEN (sym (take_at rs (drop (length rs) h.representatives) t.names at) i);
-            })
+            (cc (runs K t h bs w un, take_at rs (drop (length rs) h.representatives) t.names at))
             (model_step n rs (no_verdict K t h bs w un) (runs K t h bs w un) room l p.0 p.1 p.2)),
       )
 
   -- what the bytes are granted for is what the tests say
   told_model : ByModel K (read_trial t h) bs → (length rs ≡ n) × Passes
   told_model c =
-      let same =
-      model_same c.count n c.reps rs
-      (sym (model_reads c.count c.reps) ∙ sym (ap step_in c.bytes) ∙ e) in
-      let here =
-      running_same (branch_of t h) c.branch (open_forks t h) c.forks (sym (runs K t h bs w un) ∙ c.state) in (
-        ap length (sym same.1) ∙ c.counted ∙ same.0,
-        subst
-            (λ (z : List ℕ). Lawful K (read_sheet (plain_of t h)) t.names z ×
-            Few (read_sheet (plain_of t h)) z (branch_of t h).facts most_tuples ×
-            Satisfies (read_sheet (plain_of t h)) (Named (read_sheet (plain_of t h)) z (branch_of t h).facts))
-            same.1
+      let same : c.reps ≡ rs = cc (e, model_is c) in
+      let at_branch : c.branch ≡ branch_of t h = cc (runs K t h bs w un, c.state) in (
+        ap length (sym same) ∙ c.counted ∙ cc (e, model_is c),
+        rw (← same)
             (subst
             (λ (b : Branch). Lawful K (read_sheet (plain_of t h)) b.count c.reps ×
             Few (read_sheet (plain_of t h)) c.reps b.facts most_tuples ×
             Satisfies (read_sheet (plain_of t h)) (Named (read_sheet (plain_of t h)) c.reps b.facts))
-            (sym here.0) (c.lawful, c.few, c.satisfies)),
+            at_branch (c.lawful, c.few, c.satisfies)),
       )
 
   by_answer :
       length rs ≡ n → t.granted < 1000000 → (z : Result (Unit {0}) Refusal) →
       model_answer K (read_sheet (plain_of t h)) (branch_of t h) n rs ≡ z → LeftExact (model_done t h rs z)
   by_answer l room (Ok u) q = opens l room ((exactly l).0 q)
-  by_answer l room (Err r) q = left K t h bs r (λ st' g. by_case (told g).2)
-    where
-      by_case : ByRule K (read_trial t h) bs ⊎ ByModel K (read_trial t h) bs → ⊥
-      by_case (inl c) =
-          rule_not_model _ n rs
-          (sym (rule_reads c.r c.ph c.pl c.qh c.ql c.t c.w) ∙ sym (ap step_in c.bytes) ∙ e)
-      by_case (inr c) = refused_not r tt (sym q ∙ (exactly l).1 (told_model c).1)
+  by_answer l room (Err r) q =
+      left K t h bs r
+      (λ st' g.
+      ⊎_elim (λ c. cc (e, rule_is c)) (λ c. cc (q, (exactly l).1 (told_model c).1)) (told g).2)
 
   by_records :
       length rs ≡ n → (b : Bool) → leb 1000000 t.granted ≡ b →
@@ -192,17 +140,9 @@ pub model_step_exact :
     (moved_on K t h (model n rs)).result
 model_step_exact K t h bs n rs w un e right = by_length K t h bs n rs w un e right (eqb (length rs) n) refl
 
--- stores that are long enough pass the test of it
-enough_told : (h : Held) → Enough h → enough h ≡ true
-enough_told h b =
-    and_true (le-leb _ _ b.labels)
-    (and_true (le-leb _ _ b.terms)
-    (and_true (le-leb _ _ b.facts)
-    (and_true (le-leb _ _ b.forks) (and_true (le-leb _ _ b.tuples) (le-leb _ _ b.representatives)))))
-
 -- every step, where models are answered right
 pub step_exact : ModelsRight → StepIsExact
-step_exact right K t h bs w = by_stores (enough h) (enough_told h w.enough)
+step_exact right K t h bs w = by_stores (enough h) (enough_holds h w.enough)
   where
     by_move :
         (m : Move) → t.verdict ≡ verdict.Undecided → step_in bs ≡ m →
@@ -226,4 +166,4 @@ step_exact right K t h bs w = by_stores (enough h) (enough_told h w.enough)
         (cond b (stepped_at t.verdict K t h (step_in bs)) (left_denied t h StoresShort)).stores
         (cond b (stepped_at t.verdict K t h (step_in bs)) (left_denied t h StoresShort)).result
     by_stores true q = by_verdict t.verdict refl
-    by_stores false q = clash q
+    by_stores false q = absurd cc

@@ -1,6 +1,6 @@
 -- A model is granted exactly where it is lawful, has few enough tuples, and satisfies the constraints:
 -- `model_exact`.
-use Rattle.std.proofs.Common.{◌≡◌, ℕ, Bool, true, false, cond, eqb, leb, length, Ok, Err, Result, sym, refl, ap, ◌∙◌, arith, eq-eqb, eqb-true}
+use Rattle.std.proofs.Common.{◌≡◌, ℕ, Bool, true, false, cond, eqb, leb, length, Ok, Err, Result, sym, refl, ◌∙◌, eq-eqb, eqb-true}
 use mathlib.Core.Option.{Option, none, some}
 use Rattle.records.specs.declared.refusal.Refusal.{Refusal}
 use Rattle.records.specs.declared.refusal.Refusal.TheVariants.{Unlawful, TuplesOver}
@@ -15,24 +15,20 @@ use Rattle.calls.proofs.Lawful.{lawful_exact}
 use Rattle.calls.proofs.Few.{few_exact}
 use Rattle.calls.proofs.Satisfied.{satisfies_exact}
 
--- a refusal does not grant
-not_ok : {X : Type 0} {r : Refusal} → ◌≡◌ {A = Result (Unit {0}) Refusal} (Err r) (Ok tt) → X
-not_ok e = absurd (let z : ◌≡◌ {A = ℕ} 0 1 = cc in omega arith)
-
 -- granted after a test: the test passed, and what follows grants
 granted_after : (t : Bool) (x : Result (Unit {0}) Refusal) (r : Refusal) →
     cond t x (Err r) ≡ Ok tt → (t ≡ true) × (x ≡ Ok tt)
 granted_after true x r h = (refl, h)
-granted_after false x r h = not_ok h
+granted_after false x r h = absurd cc
 
 -- what a grant says of the first false constraint, and of the first unlawful name
 constraints_grant : (o : Option ℕ) → on_constraints o ≡ Ok tt → o ≡ none
 constraints_grant none h = refl
-constraints_grant (some k) h = not_ok h
+constraints_grant (some k) h = absurd cc
 
 names_grant : (S : Sheet) (I : Interp ℕ) (o : Option ℕ) → on_names S I o ≡ Ok tt →
     (o ≡ none) × (leb (tuples_in S I) most_tuples ≡ true) × (first_false S I S.constraints 0 ≡ none)
-names_grant S I (some e) h = not_ok h
+names_grant S I (some e) h = absurd cc
 names_grant S I none h =
     let r = granted_after (leb (tuples_in S I) most_tuples)
     (on_constraints (first_false S I S.constraints 0)) TuplesOver h in
@@ -63,9 +59,4 @@ model_exact K S b count rs len most = (from, to)
         (few_exact S rs b.facts most_tuples).1 f in
         let holds : first_false S (Named S rs b.facts) S.constraints 0 ≡ none =
         (satisfies_exact S (Named S rs b.facts)).1 s in
-        ap (λ (t : Bool). cond t (on_names S (Named S rs b.facts) (first_bad (name_lawful K S rs) b.count))
-        (Err (Unlawful 255))) counted
-        ∙ ap (on_names S (Named S rs b.facts)) good
-        ∙ ap (λ (t : Bool). cond t (on_constraints (first_false S (Named S rs b.facts) S.constraints 0))
-        (Err TuplesOver)) fits
-        ∙ ap on_constraints holds
+        cc

@@ -1,5 +1,5 @@
 -- A rule's number names it, and only it (`named`, `numbered`).
-use Rattle.std.proofs.Common.{◌≡◌, ℕ, Bool, true, false, cond, eqb, Some, Option as Maybe, sym, refl, ap, ◌∙◌, arith, eqb-true}
+use Rattle.std.proofs.Common.{◌≡◌, ℕ, Bool, true, false, cond, eqb, Some, Option as Maybe, sym, refl, ap, ◌∙◌, eqb-true}
 use Rattle.records.specs.declared.rule.Rule.{Rule as RuleName}
 use Rattle.records.specs.declared.rule.Rule.TheVariants as R
 use Rattle.records.specs.Kinds.{rule_number, rule_of}
@@ -7,30 +7,7 @@ use Rattle.records.specs.Kinds.{rule_number, rule_of}
 -- a number leads to its rule
 pub named : (r : RuleName) → rule_of (rule_number r) ≡ Some r
 named R.InterUp = refl
-named R.InterDown = refl
-named R.UnionUp = refl
-named R.UnionDown = refl
-named R.DiffUp = refl
-named R.DiffDown = refl
-named R.SingleUp = refl
-named R.SingleDown = refl
-named R.EmptyUnsat = refl
-named R.SetDiseq = refl
-named R.EqUnsat = refl
-named R.TranspUp = refl
-named R.TranspDown = refl
-named R.JoinUp = refl
-named R.JoinDown = refl
-named R.ProdUp = refl
-named R.ProdDown = refl
-named R.ClosUpOne = refl
-named R.ClosUpTwo = refl
-named R.ClosDown = refl
-named R.Sym = refl
-named R.SwapName = refl
-named R.SwapTerm = refl
-named R.LabelUnsat = refl
-named R.LabelSame = refl
+named _ = refl
 
 -- one test of the table
 pick :
@@ -70,4 +47,4 @@ numbered b r =
     pick b 23 R.SwapTerm r _ refl (
     pick b 24 R.LabelUnsat r _ refl (
     pick b 25 R.LabelSame r _ refl (
-    λ h. absurd (let z : ◌≡◌ {A = ℕ} 0 1 = cc in omega arith))))))))))))))))))))))))))
+    λ h. absurd cc)))))))))))))))))))))))))

@@ -1,8 +1,9 @@
 -- A rule step has room exactly where its alternatives, as rows, fit the limits (`has_room`, `room_names`,
 -- `room_facts`, `room_forks`).
-use Rattle.std.proofs.Common.{◌≡◌, ℕ, ◌+◌, ◌<◌, ◌≤◌, List, [], ◌∷◌, map, length, sym, ◌∙◌, subst, ap₂, arith, length-append}
+use Rattle.std.proofs.Common.{◌≡◌, ℕ, ◌+◌, ◌<◌, ◌≤◌, ◌↔◌, List, [], ◌∷◌, map, length, sym, ◌∙◌, subst, ap₂, arith, length-append}
 use lib.ListN.{length-map}
 use Rattle.std.specs.List.{AllByRecursion}
+use Rattle.std.proofs.ByRecursion.{All-weaker}
 use Rattle.records.specs.declared.rows.Fact.{Fact as FactRow}
 use Rattle.records.specs.declared.rule.Rule.{Rule as RuleName}
 use Rattle.rules.specs.declared.cited.Cited.{Cited}
@@ -17,18 +18,12 @@ use Rattle.calls.specs.Bridge.{read_branch}
 use Rattle.calls.specs.Views.{read_forks}
 use Rattle.calls.proofs.Forks.{forks_count, count_from}
 
--- what holds of each element, said of the elements mapped, and back
-all_map :
-    {X Y : Type 0} (Q : X → Type 0) (R : Y → Type 0) (f : X → Y) → ((x : X) → Q x → R (f x)) → (l : List X) →
-    AllByRecursion Q l → AllByRecursion R (map f l)
-all_map Q R f g [] h = tt
-all_map Q R f g (x ∷ l) h = (g x h.0, all_map Q R f g l h.1)
-
-all_unmap :
-    {X Y : Type 0} (Q : X → Type 0) (R : Y → Type 0) (f : X → Y) → ((x : X) → R (f x) → Q x) → (l : List X) →
-    AllByRecursion R (map f l) → AllByRecursion Q l
-all_unmap Q R f g [] h = tt
-all_unmap Q R f g (x ∷ l) h = (g x h.0, all_unmap Q R f g l h.1)
+-- what is said of the elements of a mapped list
+all_mapped :
+    {X Y : Type 0} (R : Y → Type 0) (f : X → Y) (l : List X) →
+    AllByRecursion R (map f l) ↔ AllByRecursion (λ (x : X). R (f x)) l
+all_mapped R f [] = (λ h. h, λ h. h)
+all_mapped R f (x ∷ l) = (λ h. (h.0, (all_mapped R f l).0 h.1), λ h. (h.0, (all_mapped R f l).1 h.1))
 
 module _ (P : Plain) (F : List FactRow) (n : ℕ) (G : List ForkRow) (r : RuleName) (q : Cited) where
   -- the alternatives, read
@@ -51,37 +46,40 @@ module _ (P : Plain) (F : List FactRow) (n : ℕ) (G : List ForkRow) (r : RuleNa
   length-read_forks : length (read_forks P F G []) ≡ length G
   length-read_forks = let e = forks_count P F G [] in omega arith
 
+  -- the names and the facts of each alternative, as rows and as read
+  names_mapped :
+      AllByRecursion (λ (a : Alt). (extend (read_branch P F n) a).count ≤ most_names) alts
+      ↔ AllByRecursion (λ (a : AltRow). n + a.fresh ≤ 64) (alt_rows r q n)
+  names_mapped = all_mapped _ (read_alt P.rows) (alt_rows r q n)
+
+  facts_mapped :
+      AllByRecursion (λ (a : Alt). length (extend (read_branch P F n) a).facts ≤ most_facts) alts
+      ↔ AllByRecursion (λ (a : AltRow). length F + length (alt_facts a) ≤ 1024) (alt_rows r q n)
+  facts_mapped =
+      let m = all_mapped _ (read_alt P.rows) (alt_rows r q n) in (
+        λ h. All-weaker _ _ (λ a l. omega (arith, reach a)) (alt_rows r q n) (m.0 h),
+        λ h. m.1 (All-weaker _ _ (λ a l. omega (arith, reach a)) (alt_rows r q n) h),
+      )
+
   pub has_room :
       AllByRecursion (λ (a : AltRow). n + a.fresh ≤ 64) (alt_rows r q n) →
       AllByRecursion (λ (a : AltRow). length F + length (alt_facts a) ≤ 1024) (alt_rows r q n) →
       (2 ≤ alternatives_of r → length G < 64) → Room (read_branch P F n) (read_forks P F G []) alts
   has_room names facts forks = record {
-    names_fit =
-        all_map (λ (a : AltRow). n + a.fresh ≤ 64)
-        (λ (a : Alt). (extend (read_branch P F n) a).count ≤ most_names) (read_alt P.rows) (λ a l. l) (alt_rows r q n)
-        names;
-    facts_fit =
-        all_map (λ (a : AltRow). length F + length (alt_facts a) ≤ 1024)
-        (λ (a : Alt). length (extend (read_branch P F n) a).facts ≤ most_facts) (read_alt P.rows)
-        (λ a l. subst (λ (k : ℕ). k ≤ 1024) (sym (reach a)) l) (alt_rows r q n) facts;
+    names_fit = names_mapped.1 names;
+    facts_fit = facts_mapped.1 facts;
     forks_fit =
         λ l. subst (λ (k : ℕ). k < 64) (sym length-read_forks) (forks (subst (λ (k : ℕ). 2 ≤ k) many l));
   }
 
   pub room_names :
       Room (read_branch P F n) (read_forks P F G []) alts → AllByRecursion (λ (a : AltRow). n + a.fresh ≤ 64) (alt_rows r q n)
-  room_names h =
-      all_unmap (λ (a : AltRow). n + a.fresh ≤ 64)
-      (λ (a : Alt). (extend (read_branch P F n) a).count ≤ most_names) (read_alt P.rows) (λ a l. l) (alt_rows r q n)
-      h.names_fit
+  room_names h = names_mapped.0 h.names_fit
 
   pub room_facts :
       Room (read_branch P F n) (read_forks P F G []) alts →
       AllByRecursion (λ (a : AltRow). length F + length (alt_facts a) ≤ 1024) (alt_rows r q n)
-  room_facts h =
-      all_unmap (λ (a : AltRow). length F + length (alt_facts a) ≤ 1024)
-      (λ (a : Alt). length (extend (read_branch P F n) a).facts ≤ most_facts) (read_alt P.rows)
-      (λ a l. subst (λ (k : ℕ). k ≤ 1024) (reach a) l) (alt_rows r q n) h.facts_fit
+  room_facts h = facts_mapped.0 h.facts_fit
 
   pub room_forks :
       Room (read_branch P F n) (read_forks P F G []) alts → 2 ≤ alternatives_of r → length G < 64

@@ -3,26 +3,12 @@ use Rattle.std.proofs.Common.{◌≡◌, ℕ, ◌≤◌, List, [], ◌∷◌, le
 use Rattle.std.specs.declared.option.Option.TheVariants as option
 use Rattle.records.specs.declared.record.RowRecord.TheVariants as row
 use Rattle.records.specs.Reading.{row_in}
-use Rattle.meaning.specs.Terms.{
-  Op,
-  variable,
-  empty,
-  single,
-  union,
-  inter,
-  diff,
-  transp,
-  prod,
-  join,
-  closure,
-  Row,
-  names,
-  OpFits,
-}
+use Rattle.meaning.specs.Terms.{Op, single, Row, names, OpFits}
 use Rattle.meaning.specs.Mixes.{op_code, operands, row_bytes}
 use Rattle.meaning.specs.Mixes as subject
 use Rattle.calls.specs.Reading.{four, read_row, write_op, write_row, Plain, read_sheet, RowFits}
 use Rattle.calls.proofs.Bytes.{term_bytes}
+use Rattle.calls.proofs.Written.{took}
 
 -- four bytes are the first four of the list, zero where there are none
 pub four_are : (u : List ℕ) → subject.four u ≡ four (get_or u 0 0) (get_or u 1 0) (get_or u 2 0) (get_or u 3 0)
@@ -37,16 +23,8 @@ row_bytes_are : (R : Row) → row_bytes R ≡ term_bytes (write_row R)
 row_bytes_are R = go R.arity R.op
   where
     go : (k : ℕ) (o : Op) → op_code o ∷ k ∷ subject.four (operands o) ≡ term_bytes (write_op k o)
-    go k variable = refl
-    go k empty = refl
     go k (single v) = ap (λ (l : List ℕ). 2 ∷ k ∷ l) (four_are v)
-    go k (union s r) = refl
-    go k (inter s r) = refl
-    go k (diff s r) = refl
-    go k (transp s) = refl
-    go k (prod s r) = refl
-    go k (join s r) = refl
-    go k (closure s) = refl
+    go k _ = refl
 
 -- and it is read as that
 pub row_read : (R : Row) → row_in (84 ∷ 77 ∷ row_bytes R) ≡ option.Some (row.Term (write_row R))
@@ -61,32 +39,15 @@ taken :
     (k : ℕ) (v : List ℕ) → length v ≡ k → k ≤ 4 →
     take k (four (get_or v 0 0) (get_or v 1 0) (get_or v 2 0) (get_or v 3 0)) ≡ v
 taken k v e l =
-    ap (λ (j : ℕ). take j (four (get_or v 0 0) (get_or v 1 0) (get_or v 2 0) (get_or v 3 0))) (sym e) ∙ go v (omega arith)
-  where
-    go :
-        (v : List ℕ) → length v ≤ 4 → take (length v) (four (get_or v 0 0) (get_or v 1 0) (get_or v 2 0) (get_or v 3 0)) ≡ v
-    go [] l = refl
-    go (x ∷ []) l = refl
-    go (x ∷ y ∷ []) l = refl
-    go (x ∷ y ∷ z ∷ []) l = refl
-    go (x ∷ y ∷ z ∷ w ∷ []) l = refl
-    go (x ∷ y ∷ z ∷ w ∷ q ∷ v) l = absurd (omega arith)
+    ap (λ (j : ℕ). take j (four (get_or v 0 0) (get_or v 1 0) (get_or v 2 0) (get_or v 3 0))) (sym e) ∙ took v (omega arith)
 
 module _ (rs : List Row) (n t : ℕ) where
   -- a row that fits is read back from what is written of it
   op_back :
       (k : ℕ) (o : Op) → k ≤ 4 → OpFits rs n t k o →
       ◌≡◌ {A = Row} (read_row (write_op k o)) (record { op = o; arity = k })
-  op_back k variable l b = refl
-  op_back k empty l b = refl
   op_back k (single v) l b = λ i. record { op = single (taken k v b.0 l i); arity = k }
-  op_back k (union s r) l b = refl
-  op_back k (inter s r) l b = refl
-  op_back k (diff s r) l b = refl
-  op_back k (transp s) l b = refl
-  op_back k (prod s r) l b = refl
-  op_back k (join s r) l b = refl
-  op_back k (closure s) l b = refl
+  op_back k _ l b = refl
 
   pub row_back : (R : Row) → R.arity ≤ 4 → OpFits rs n t R.arity R.op → read_row (write_row R) ≡ R
   row_back R l b = op_back R.arity R.op l b

@@ -6,16 +6,16 @@ use Rattle.records.specs.declared.refusal.Refusal.{Refusal}
 use Rattle.records.specs.declared.verdict.Verdict.{Verdict}
 use Rattle.records.specs.declared.verdict.Verdict.TheVariants as verdict
 use Rattle.meaning.specs.Mixes.{Stage, trying, Call, add, seal, step, settle}
-use Rattle.meaning.specs.Mixes.{Turn, Grants, Goes, granted, denied, denied_at, Mix, end, next, counted, one_more}
+use Rattle.meaning.specs.Mixes.{Turn, Grants, Goes, granted, denied, denied_at, Mix, end, next, counted}
 use Rattle.calls.specs.Stores.{Held}
 use Rattle.calls.specs.Sheets.{Filling, Counts, seal_of}
 use Rattle.calls.specs.RuleSteps.{denied_once}
-use Rattle.calls.specs.Trials.{plain_of, settle_of}
-use Rattle.calls.specs.Reading.{read_sheet}
-use Rattle.calls.specs.Views.{Orderly, Whole, LiveBy, state_by, verdict_by, read_trial}
+use Rattle.calls.specs.Trials.{settle_of}
+use Rattle.calls.specs.Views.{Orderly, Whole, state_by, verdict_by, read_trial}
 use Rattle.calls.specs.Exact.{Denied, AddExact, AddIsExact, SealExact, SealIsExact, StepExact, StepIsExact, SettleExact}
 use Rattle.calls.specs.Exact.{SettleIsExact}
 use Rattle.calls.specs.Runs.{Place, sheet, trial, ended, read_place, Sound, after_seal, after_settle, called, run, Turns}
+use Rattle.calls.proofs.Following.{whole_recorded}
 use Rattle.calls.specs.Runs.{CallIsExact, RunsAreExact, RunsAreSound}
 
 -- At most one stage is granted.
@@ -31,47 +31,18 @@ Went K p c q =
     × ((st : Stage) → Goes K (read_place p) c st → st ≡ read_place q)
     × Sound q
 
--- A denied step keeps what a trial that is not closed keeps.
-live_denied : (t : Counts) (h : Held) (v : Verdict) → LiveBy v t h → LiveBy v (denied_once t) h
-live_denied t h verdict.Undecided l = record { fair = l.fair; stacked = l.stacked }
-live_denied t h verdict.Open l = record { fair = l.fair; stacked = l.stacked }
-live_denied t h verdict.Closed l = tt
-
-pub denied_whole : (t : Counts) (h : Held) → Whole t h → Whole (denied_once t) h
-denied_whole t h w = record {
-  enough = w.enough;
-  few_sheet_names = w.few_sheet_names;
-  few_terms = w.few_terms;
-  few_constraints = w.few_constraints;
-  few_names = w.few_names;
-  few_facts = w.few_facts;
-  few_forks = w.few_forks;
-  few_granted = w.few_granted;
-  constraints_kept = w.constraints_kept;
-  good = w.good;
-  live = live_denied t h t.verdict w.live;
-}
-
 -- A denied step leaves the state and the verdict.
 state_denied : (t : Counts) (h : Held) (v : Verdict) → state_by v (denied_once t) h ≡ state_by v t h
 state_denied t h verdict.Undecided = refl
-state_denied t h verdict.Open = refl
-state_denied t h verdict.Closed = refl
+state_denied t h _ = refl
 
 verdict_denied : (t : Counts) (h : Held) (v : Verdict) → verdict_by v (denied_once t) h ≡ verdict_by v t h
 verdict_denied t h verdict.Undecided = refl
-verdict_denied t h verdict.Open = refl
-verdict_denied t h verdict.Closed = refl
+verdict_denied t h _ = refl
 
 read_denied : (t : Counts) (h : Held) → trying (read_trial (denied_once t) h) ≡ trying (counted (read_trial t h))
 read_denied t h =
-    λ i. trying (record {
-      sheet = read_sheet (plain_of t h);
-      state = state_denied t h t.verdict i;
-      granted = t.granted;
-      denied = one_more t.denied;
-      verdict = verdict_denied t h t.verdict i;
-    })
+    cc (state_denied t h t.verdict, verdict_denied t h t.verdict)
 
 module _ (single : Single) where
   -- a granted call
@@ -101,9 +72,7 @@ module _ (single : Single) where
         (r : Result (Unit {0}) Refusal) → AddExact K f h bs f' h' r → Went K (sheet f h) (add bs) (sheet f' h')
     add_went K f h bs good f' h' (Ok x) (kept, g) = yes_call K (sheet f h) (add bs) (sheet f' h') good kept g
     add_went K f h bs good f' h' (Err e) (sf, sh, never) =
-        subst (λ (y : Filling). Went K (sheet f h) (add bs) (sheet y h')) (sym sf)
-        (subst (λ (y : Held). Went K (sheet f h) (add bs) (sheet f y)) (sym sh)
-        (no_call K (sheet f h) (add bs) (sheet f h) tt good never refl))
+        rw (sf, sh) (no_call K (sheet f h) (add bs) (sheet f h) tt good never refl)
 
     -- seal
     seal_went :
@@ -118,9 +87,8 @@ module _ (single : Single) where
         (r : Result (Unit {0}) Refusal) → StepExact K t h bs t' h' r → Went K (trial t h) (step bs) (trial t' h')
     step_went K t h bs good t' h' (Ok x) (kept, g) = yes_call K (trial t h) (step bs) (trial t' h') good kept g
     step_went K t h bs good t' h' (Err e) (st, sh, never) =
-        subst (λ (y : Counts). Went K (trial t h) (step bs) (trial y h')) (sym st)
-        (subst (λ (y : Held). Went K (trial t h) (step bs) (trial (denied_once t) y)) (sym sh)
-        (no_call K (trial t h) (step bs) (trial (denied_once t) h) tt (denied_whole t h good) never (read_denied t h)))
+        rw (st, sh)
+        (no_call K (trial t h) (step bs) (trial (denied_once t) h) tt (whole_recorded t h t.granted (denied_once t).denied good.few_granted good) never (read_denied t h))
 
     -- settle
     settle_went :
@@ -133,13 +101,9 @@ module _ (single : Single) where
     went : (K : ℕ → Option ℕ) (p : Place) (c : Call) → Sound p → Turn (read_place p) c → Went K p c (called K p c)
     went K (sheet f h) (add bs) good turn = add_went K f h bs good _ _ _ (add_exact K f h bs good)
     went K (sheet f h) seal good turn = seal_went K f h good (seal_of f h) (seal_exact K f h good)
-    went K (sheet f h) (step bs) good turn = absurd turn
-    went K (sheet f h) settle good turn = absurd turn
-    went K (trial t h) (add bs) good turn = absurd turn
-    went K (trial t h) seal good turn = absurd turn
     went K (trial t h) (step bs) good turn = step_went K t h bs good _ _ _ (step_exact K t h bs good)
     went K (trial t h) settle good turn = settle_went K t h good (settle_of t) (settle_exact K t h good)
-    went K (ended t h) c good turn = absurd turn
+    went K _ _ good turn = absurd turn
 
     pub call_exact_by : CallIsExact
     call_exact_by K p c good turn = went K p c good turn
@@ -148,18 +112,10 @@ module _ (single : Single) where
     turned : (K : ℕ → Option ℕ) (p : Place) (c : Call) (st : Stage) → Goes K (read_place p) c st → Turn (read_place p) c
     turned K (sheet f h) (add bs) st g = tt
     turned K (sheet f h) seal st g = tt
-    turned K (sheet f h) (step bs) st (granted g) = elim g [ ]
-    turned K (sheet f h) (step bs) st (denied t never) = t
-    turned K (sheet f h) settle st (granted g) = elim g [ ]
-    turned K (sheet f h) settle st (denied t never) = t
-    turned K (trial t h) (add bs) st (granted g) = elim g [ ]
-    turned K (trial t h) (add bs) st (denied u never) = u
-    turned K (trial t h) seal st (granted g) = elim g [ ]
-    turned K (trial t h) seal st (denied u never) = u
     turned K (trial t h) (step bs) st g = tt
     turned K (trial t h) settle st g = tt
-    turned K (ended t h) c st (granted g) = elim g [ ]
-    turned K (ended t h) c st (denied u never) = u
+    turned K _ _ st (granted g) = elim g [ ]
+    turned K _ _ st (denied u never) = u
 
     runs : (K : ℕ → Option ℕ) (p : Place) (cs : List Call) → Sound p → Turns K p cs →
         Mix K (read_place p) cs (read_place (run K p cs))

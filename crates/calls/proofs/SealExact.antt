@@ -1,10 +1,9 @@
 -- seal runs exactly as the subject has it (`seal_exact`).
-use Rattle.std.proofs.Common.{◌≡◌, ℕ, ◌+◌, Bool, true, false, cond, eqb, [], length, take, Ok, Err, sym, refl, ap, ◌∙◌, subst, arith, eqb-true}
+use Rattle.std.proofs.Common.{◌≡◌, ℕ, ◌+◌, Bool, true, false, cond, eqb, length, Ok, Err, sym, refl, ap, ◌∙◌, subst, arith, eqb-true}
 use mathlib.Core.Option.{Option}
 use borrow.Author.Tests.{eqb-false}
-use Rattle.records.specs.declared.refusal.Refusal.TheVariants.{StoresShort, RowsDue}
+use Rattle.records.specs.declared.refusal.Refusal.TheVariants.{RowsDue}
 use Rattle.meaning.specs.Terms.{names}
-use Rattle.meaning.specs.Calculus.{running}
 use Rattle.meaning.specs.Mixes.{Draft, Trial, sealed, undecided, Stage, filling, trying, Grants, full_sheet}
 use Rattle.meaning.specs.Mixes as subject
 use Rattle.calls.specs.Reading.{Plain, read_sheet}
@@ -33,23 +32,13 @@ module _ (K : ℕ → Option ℕ) (f : Filling) (h : Held) (o : Orderly f h) whe
   all_in :
       rows_due f ≡ 0 → (f.labels_in ≡ f.labels) × (f.terms_in ≡ f.terms) × (f.constraints_in ≡ f.constraints)
   all_in e =
-      let l = o.labels_due in
-      let t = o.terms_due in
-      let c = o.constraints_due in
       (omega arith, omega arith, omega arith)
 
   module _
       (el : f.labels_in ≡ f.labels) (et : f.terms_in ≡ f.terms) (ec : f.constraints_in ≡ f.constraints) where
     -- the sheet of the trial
     same_plain : plain_in f h ≡ plain_of (new_trial f) h
-    same_plain =
-        λ i.
-        record {
-          codes = take (el i) h.labels;
-          free = f.free;
-          rows = take (et i) h.terms;
-          constraints = take (ec i) h.facts;
-        }
+    same_plain = cc
 
     -- and its names
     same_names : names (read_sheet (plain_of (new_trial f) h)) ≡ f.labels + f.free
@@ -57,18 +46,7 @@ module _ (K : ℕ → Option ℕ) (f : Filling) (h : Held) (o : Orderly f h) whe
 
     -- the trial is the one that the sheet begins with
     same_trial : sealed (read_sheet (plain_in f h)) ≡ read_trial (new_trial f) h
-    same_trial =
-        ap (λ (P : Plain). sealed (read_sheet P)) same_plain
-        ∙ (λ i.
-        record {
-          sheet = read_sheet (plain_of (new_trial f) h);
-          state =
-              running
-              (record { facts = (read_sheet (plain_of (new_trial f) h)).constraints; count = same_names i }) [];
-          granted = 0;
-          denied = 0;
-          verdict = undecided;
-        })
+    same_trial = cc (same_plain, same_names)
 
     -- its facts are the constraints, which fit
     fair : Fair (plain_of (new_trial f) h) (plain_of (new_trial f) h).constraints (f.labels + f.free)
@@ -77,22 +55,7 @@ module _ (K : ℕ → Option ℕ) (f : Filling) (h : Held) (o : Orderly f h) whe
         ((granted.4 (plain_of (new_trial f) h)).0 (subst Passed same_plain o.passed))
 
     whole : Whole (new_trial f) h
-    whole =
-        let n = o.few_names in
-        let c = o.few_constraints in
-        record {
-          enough = o.enough;
-          few_sheet_names = o.few_names;
-          few_terms = o.few_terms;
-          few_constraints = o.few_constraints;
-          few_names = omega arith;
-          few_facts = omega arith;
-          few_forks = omega arith;
-          few_granted = omega arith;
-          constraints_kept = omega arith;
-          good = fair.sheet;
-          live = record { fair = fair; stacked = no_fork };
-        }
+    whole = search (arith, fair, fair.sheet, no_fork)
 
     sealed_is :
         Whole (new_trial f) h ×
@@ -119,8 +82,4 @@ module _ (K : ℕ → Option ℕ) (f : Filling) (h : Held) (o : Orderly f h) whe
 
 pub seal_exact : SealIsExact
 seal_exact K f h o =
-    subst
-    (λ (z : Bool).
-    SealExact K f h
-    (cond z (cond (eqb (rows_due f) 0) (Ok (new_trial f)) (Err (RowsDue (rows_due f)))) (Err StoresShort)))
-    (sym (enough_holds h o.enough)) (by_due K f h o (eqb (rows_due f) 0) refl)
+    rw (enough_holds h o.enough) (by_due K f h o (eqb (rows_due f) 0) refl)

@@ -1,5 +1,6 @@
 -- The rules on equalities, names and labels are seen by their tests: 10, 11 and 21 to 25, one lemma each.
 use Rattle.std.proofs.Common.{◌≡◌, ℕ, zero, suc, ◌<◌, true, not, ◌&&◌, ◌||◌, eqb, ltb, List, [], ◌∷◌, ◌++◌, length, get_or, take, drop, sym, refl, ap, ◌∙◌, subst, ⊎_elim, arith, length-take, ltb-true, eqb-true}
+use Rattle.std.proofs.lemmas.Bool.{and_parts, or_cases}
 use mathlib.Core.Option.{Option}
 use borrow.Author.Tests.{not-true}
 use Rattle.std.proofs.lemmas.List.{set_split, set-get_or}
@@ -15,7 +16,6 @@ use Rattle.meaning.specs.Calculus.{sym_names, sym_terms, swap_name_member, swap_
 use Rattle.meaning.specs.Calculus.{swap_term_member, swap_term_left, swap_term_right, label_unsat, label_same}
 use Rattle.calls.specs.Reading.{tuple_of, read_form, read_fact, Plain, read_sheet, Good}
 use Rattle.calls.specs.Passing.{from_none, from_one, from_twice, from_two, Found}
-use Rattle.calls.proofs.Truth.{and_split, or_split}
 use Rattle.calls.proofs.Tuples.{place_is}
 use Rattle.calls.proofs.Forms.{read_eq, read_same, form_in, form_eq, form_same}
 use Rattle.calls.proofs.Forms.{read_not_eq, read_not_same, forms_are}
@@ -48,14 +48,14 @@ module _ (K : ℕ → Option ℕ) (P : Plain) (good : Good P) where
 
   pub eq_unsat_seen : Seen K P R.EqUnsat
   eq_unsat_seen n o f g t w bp bq h =
-      ⊎_elim by_one by_both (or_split (o && self_unequal f) (negated_by f g) h.0)
+      ⊎_elim by_one by_both (or_cases (o && self_unequal f) (negated_by f g) h.0)
     where
       by_names :
           o ≡ true → (not f.positive && (eqb f.form 2 && eqb f.a f.b)) ≡ true →
           Found K P n R.EqUnsat o f g 0 0
       by_names eo e =
-          let r = and_split (not f.positive) _ e in
-          let r' = and_split (eqb f.form 2) _ r.1 in
+          let r = and_parts (not f.positive) _ e in
+          let r' = and_parts (eqb f.form 2) _ r.1 in
           let q = eqb-true f.a f.b r'.1 in
           let ef = read_not_eq P.rows f (not-true f.positive r.0) (eqb-true _ _ r'.0) in
           give eq_unsat_names (from_twice refl refl refl eo ((λ i. neg (equal f.a (q i))) ∙ ef))
@@ -64,25 +64,25 @@ module _ (K : ℕ → Option ℕ) (P : Plain) (good : Good P) where
           o ≡ true → (not f.positive && (eqb f.form 3 && eqb f.term f.a)) ≡ true →
           Found K P n R.EqUnsat o f g 0 0
       by_terms eo e =
-          let r = and_split (not f.positive) _ e in
-          let r' = and_split (eqb f.form 3) _ r.1 in
+          let r = and_parts (not f.positive) _ e in
+          let r' = and_parts (eqb f.form 3) _ r.1 in
           let q = eqb-true f.term f.a r'.1 in
           let ef = read_not_same P.rows f (not-true f.positive r.0) (eqb-true _ _ r'.0) in
           give eq_unsat_terms (from_twice refl refl refl eo ((λ i. neg (same f.term (q i))) ∙ ef))
 
       by_one : (o && self_unequal f) ≡ true → Found K P n R.EqUnsat o f g 0 0
       by_one e =
-          let r = and_split o (self_unequal f) e in
+          let r = and_parts o (self_unequal f) e in
           ⊎_elim (by_names r.0) (by_terms r.0)
-          (or_split
+          (or_cases
           (not f.positive && (eqb f.form 2 && eqb f.a f.b))
           (not f.positive && (eqb f.form 3 && eqb f.term f.a))
           r.1)
 
       by_both : negated_by f g ≡ true → Found K P n R.EqUnsat o f g 0 0
       by_both e =
-          let r = and_split f.positive _ e in
-          let r' = and_split (not g.positive) _ r.1 in
+          let r = and_parts f.positive _ e in
+          let r' = and_parts (not g.positive) _ r.1 in
           let sp = sym r.0 in
           let sq = sym (not-true g.positive r'.0) in
           let q = forms_are P.rows f g r'.1 in
@@ -94,12 +94,12 @@ module _ (K : ℕ → Option ℕ) (P : Plain) (good : Good P) where
       ⊎_elim
       (λ e. give sym_names (from_one refl refl refl (form_eq P.rows f (eqb-true _ _ e))))
       (λ e. give sym_terms (from_one refl refl refl (form_same P.rows f (eqb-true _ _ e))))
-      (or_split (eqb f.form 2) (eqb f.form 3) h.0)
+      (or_cases (eqb f.form 2) (eqb f.form 3) h.0)
 
   pub swap_name_seen : Seen K P R.SwapName
   swap_name_seen n o f g t w bp bq h =
       ⊎_elim in_member in_equal
-      (or_split (eqb f.form 1 && ltb w (arity f.term)) (eqb f.form 2 && ltb w 2) h.1.0)
+      (or_cases (eqb f.form 1 && ltb w (arity f.term)) (eqb f.form 2 && ltb w 2) h.1.0)
     where
       eq : pos (equal g.a g.b) ≡ read_fact P.rows g
       eq = read_eq P.rows g h.0
@@ -109,7 +109,7 @@ module _ (K : ℕ → Option ℕ) (P : Plain) (good : Good P) where
 
       in_member : (eqb f.form 1 && ltb w (arity f.term)) ≡ true → Found K P n R.SwapName o f g 0 w
       in_member e =
-          let r = and_split (eqb f.form 1) _ e in
+          let r = and_parts (eqb f.form 1) _ e in
           let ef = form_in P.rows f (eqb-true _ _ r.0) in
           let u = tuple f in
           let ar : Arity (read_sheet P).rows f.term (length u) =
@@ -133,7 +133,7 @@ module _ (K : ℕ → Option ℕ) (P : Plain) (good : Good P) where
 
       in_equal : (eqb f.form 2 && ltb w 2) ≡ true → Found K P n R.SwapName o f g 0 w
       in_equal e =
-          let r = and_split (eqb f.form 2) _ e in
+          let r = and_parts (eqb f.form 2) _ e in
           go w (ltb-true w 2 r.1) there (form_eq P.rows f (eqb-true _ _ r.0))
         where
           go :
@@ -151,7 +151,7 @@ module _ (K : ℕ → Option ℕ) (P : Plain) (good : Good P) where
   pub swap_term_seen : Seen K P R.SwapTerm
   swap_term_seen n o f g t w bp bq h =
       ⊎_elim at_0 at_1
-      (or_split
+      (or_cases
       (eqb w 0 && ((eqb f.form 1 || eqb f.form 3) && eqb f.term g.term))
       (eqb w 1 && (eqb f.form 3 && eqb f.a g.term))
       h.1.0)
@@ -163,10 +163,10 @@ module _ (K : ℕ → Option ℕ) (P : Plain) (good : Good P) where
           (eqb w 0 && ((eqb f.form 1 || eqb f.form 3) && eqb f.term g.term)) ≡ true →
           Found K P n R.SwapTerm o f g 0 w
       at_0 e =
-          let r = and_split (eqb w 0) _ e in
-          let r' = and_split (eqb f.form 1 || eqb f.form 3) _ r.1 in
+          let r = and_parts (eqb w 0) _ e in
+          let r' = and_parts (eqb f.form 1 || eqb f.form 3) _ r.1 in
           let q = eqb-true f.term g.term r'.1 in
-          subst (λ (x : ℕ). Found K P n R.SwapTerm o f g 0 x) (sym (eqb-true w 0 r.0))
+          rw (eqb-true w 0 r.0)
           (⊎_elim
           (λ z.
           give (swap_term_member {s = g.term})
@@ -180,15 +180,15 @@ module _ (K : ℕ → Option ℕ) (P : Plain) (good : Good P) where
           ((λ i. signed f.positive (same (sym q i) f.a)) ∙ form_same P.rows f
           (eqb-true _ _ z))
           eq))
-          (or_split (eqb f.form 1) (eqb f.form 3) r'.0))
+          (or_cases (eqb f.form 1) (eqb f.form 3) r'.0))
 
       at_1 : (eqb w 1 && (eqb f.form 3 && eqb f.a g.term)) ≡ true → Found K P n R.SwapTerm o f g 0 w
       at_1 e =
-          let r = and_split (eqb w 1) _ e in
-          let r' = and_split (eqb f.form 3) _ r.1 in
+          let r = and_parts (eqb w 1) _ e in
+          let r' = and_parts (eqb f.form 3) _ r.1 in
           let q = eqb-true f.a g.term r'.1 in
           let ef = form_same P.rows f (eqb-true _ _ r'.0) in
-          subst (λ (x : ℕ). Found K P n R.SwapTerm o f g 0 x) (sym (eqb-true w 1 r.0))
+          rw (eqb-true w 1 r.0)
           (give (swap_term_right {s = g.term})
           (from_two refl refl ((λ i. signed f.positive (same f.term (sym q i))) ∙ ef) eq))
 

@@ -1,5 +1,6 @@
 -- The rules on terms are seen by their tests: 1 to 9 and 12 to 20, one lemma each.
 use Rattle.std.proofs.Common.{◌≡◌, ℕ, ◌+◌, ◌-◌, Bool, true, false, eqb, List, [], ◌∷◌, ◌++◌, length, take, drop, sym, refl, ap, ◌∙◌, subst, inl, inr, ⊎_elim, arith, take-append-drop, length-take, eqb-true}
+use Rattle.std.proofs.lemmas.Bool.{or_cases}
 use mathlib.Core.Option.{Option}
 use Rattle.records.specs.declared.rows.Fact.{Fact as FactRow}
 use Rattle.records.specs.declared.rule.Rule.{Rule as RuleName}
@@ -16,7 +17,6 @@ use Rattle.meaning.specs.Calculus.{prod_up, prod_down, tclos_up_one, tclos_up_tw
 use Rattle.calls.specs.Reading.{four, tuple_of, Plain, read_sheet, Good}
 use Rattle.calls.specs.Passing.{from_none, from_one, from_two, Found}
 use Rattle.meaning.proofs.RuleFits.{to, of, both, fit}
-use Rattle.calls.proofs.Truth.{or_split}
 use Rattle.calls.proofs.Tuples.{ends, begins, two_are}
 use Rattle.calls.proofs.Forms.{names_are}
 use Rattle.calls.proofs.Rows.{arity_of, arity_low, full, is_op}
@@ -68,7 +68,7 @@ module _ (K : ℕ → Option ℕ) (P : Plain) (good : Good P) where
   union_up_seen n o f g t w bp bq h =
       let side =
       ⊎_elim (λ e. inl (sym (eqb-true _ _ e))) (λ e. inr (sym (eqb-true _ _ e)))
-      (or_split _ _ h.1.1.0) in
+      (or_cases _ _ h.1.1.0) in
       one_in refl refl refl h.0 refl (union_up (is_op P good t 3 (omega arith) h.1.0) side)
 
   pub union_down_seen : Seen K P R.UnionDown

@@ -5,11 +5,9 @@ use Rattle.records.specs.declared.rows.TermRow.{TermRow}
 use Rattle.rules.specs.Facts.{no_row}
 use Rattle.rules.specs.Rules.{all_of}
 use Rattle.rules.specs.Looked.{row_at}
-use Rattle.meaning.specs.Terms.{Op, variable, empty, single, union, inter, diff, transp, prod, join, closure}
-use Rattle.meaning.specs.Terms.{Before, OpFits}
 use Rattle.calls.specs.Tests.{row_tests}
 use Rattle.calls.specs.Granted.{RowStays, OpStays}
-use Rattle.calls.proofs.Lookups.{ahead}
+use Rattle.meaning.proofs.Drafts.{op_more}
 
 -- each operation's tests ask for an operand's arity only after the operand is found below t (za, zb)
 alike_stays :
@@ -95,19 +93,4 @@ row_stays rows more n t r lt =
         ap (λ (x : TermRow). x.arity) (get_or-append rows more no_row s (omega arith))
 
 pub op_stays : OpStays
-op_stays rs more n t k o = go o
-  where
-    before : (s i : ℕ) → Before rs t s i → Before (rs ++ more) t s i
-    before s i b = (b.0, record { op = b.1.op; row = ahead rs more s _ b.1.row })
-
-    go : (o : Op) → OpFits rs n t k o → OpFits (rs ++ more) n t k o
-    go variable b = tt
-    go empty b = tt
-    go (single v) b = b
-    go (union s r) b = (before s k b.0, before r k b.1)
-    go (inter s r) b = (before s k b.0, before r k b.1)
-    go (diff s r) b = (before s k b.0, before r k b.1)
-    go (transp s) b = before s k b
-    go (prod s r) b = (b.0, b.1, before s _ b.2, before r _ b.3, b.4)
-    go (join s r) b = (b.0, b.1, before s _ b.2, before r _ b.3, b.4)
-    go (closure s) b = (before s 2 b.0, b.1)
+op_stays = op_more

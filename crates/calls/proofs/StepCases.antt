@@ -1,38 +1,14 @@
 -- What a granted step or settle rests on, told from its case (`told`), and the bytes of a step, told from how
--- they are read (`read_rule`, `read_model`) and read where they are told (`rule_reads`, `model_reads`).
-use Rattle.std.proofs.Common.{◌≡◌, ℕ, ◌+◌, ◌*◌, ◌<◌, ◌≤◌, Bool, true, false, cond, ◌&&◌, eqb, leb, ◌⊎◌, List, [], ◌∷◌, length, drop, sym, refl, ◌∙◌, inl, inr, arith, eqb-true, le-leb, leb-true}
+-- they are read (`read_rule`, `read_model`) and read where they are told (`rule_is`, `model_is`).
+use Rattle.std.proofs.Common.{◌≡◌, ℕ, ◌+◌, ◌*◌, ◌<◌, ◌≤◌, Bool, true, false, cond, ◌&&◌, eqb, leb, ◌⊎◌, List, [], ◌∷◌, length, drop, refl, ap, ◌∙◌, inl, inr, arith, eqb-true, le-leb, leb-true}
+use Rattle.std.proofs.lemmas.Bool.{and_right, and_parts}
 use Rattle.records.specs.declared.rows.Step.{Step}
+use Rattle.calls.proofs.Bytes.{spelt}
 use Rattle.records.specs.Reading.{rule, model, other, byte, marked, whole, step_of, step_in}
 use Rattle.meaning.specs.Meaning.{CodeMeaning, Satisfies}
 use Rattle.meaning.specs.Calculus.{Alt, Branch, Fork, running, Applies}
 use Rattle.meaning.specs.Model.{Lawful, Named}
-use Rattle.meaning.specs.Mixes.{
-  most_tuples,
-  most_records,
-  undecided,
-  Decided,
-  Trial,
-  Stage,
-  filling,
-  trying,
-  settled,
-  Call,
-  add,
-  seal,
-  step,
-  settle,
-  Room,
-  Few,
-  Grants,
-  label_row,
-  term_row,
-  constraint_row,
-  full_sheet,
-  rule_step,
-  model_step,
-  verdict_there,
-}
-use Rattle.calls.proofs.Truth.{and_split}
+use Rattle.meaning.specs.Mixes.{most_tuples, most_records, undecided, Decided, Trial, Stage, filling, trying, settled, Call, add, seal, step, settle, Room, Few, Grants, rule_step, model_step, verdict_there}
 
 -- ── cases ──────────────────────────────────────────────────────────────────
 
@@ -77,10 +53,6 @@ Told K (trying T) (step bs) =
 Told K (trying T) settle = Decided T.verdict
 
 pub told : {K : CodeMeaning} {st st' : Stage} {c : Call} → Grants K st c st' → Told K st c
-told (label_row a b c d l k) = tt
-told (term_row r a b c d e) = tt
-told (constraint_row f a b c d) = tt
-told (full_sheet a b c) = tt
 told (rule_step {b = b} {fs = fs} {alts = alts} r ph pl qh ql t w v e l a has) = (
   v,
   l,
@@ -120,66 +92,30 @@ told (model_step {b = b} {fs = fs} count rs v e l n lawful few sat) = (
       }),
 )
 told (verdict_there d) = d
+told _ = tt
 
 -- ── bytes ──────────────────────────────────────────────────────────────────
 
--- the three readings of a step differ
-pub rule_not_other : {X : Type 0} (x : Step) → rule x ≡ other → X
-rule_not_other x e = absurd (let z : ◌≡◌ {A = ℕ} 0 1 = cc in omega arith)
-
-pub model_not_other : {X : Type 0} (n : ℕ) (rs : List ℕ) → model n rs ≡ other → X
-model_not_other n rs e = absurd (let z : ◌≡◌ {A = ℕ} 0 1 = cc in omega arith)
-
-pub rule_not_model : {X : Type 0} (x : Step) (n : ℕ) (rs : List ℕ) → rule x ≡ model n rs → X
-rule_not_model x n rs e = absurd (let z : ◌≡◌ {A = ℕ} 0 1 = cc in omega arith)
-
-pub rule_same : (x y : Step) → rule x ≡ rule y → x ≡ y
-rule_same x y e = cc
-
-pub model_same : (m n : ℕ) (rs qs : List ℕ) → model m rs ≡ model n qs → (m ≡ n) × (rs ≡ qs)
-model_same m n rs qs e = (cc, cc)
-
--- the bytes of a rule step are read as one
-pub rule_reads :
-    (r ph pl qh ql t w : ℕ) →
-    step_in (83 ∷ 84 ∷ r ∷ ph ∷ pl ∷ qh ∷ ql ∷ t ∷ w ∷ [])
-    ≡ rule (record { rule = r; p = ph * 256 + pl; q = qh * 256 + ql; t = t; w = w })
-rule_reads r ph pl qh ql t w = refl
-
-and_false : (b : Bool) → (b && false) ≡ false
-and_false true = refl
-and_false false = refl
-
 -- the bytes of a model are read as one
-pub model_reads : (n : ℕ) (rs : List ℕ) → step_in (77 ∷ 68 ∷ n ∷ rs) ≡ model n rs
+model_reads : (n : ℕ) (rs : List ℕ) → step_in (77 ∷ 68 ∷ n ∷ rs) ≡ model n rs
 model_reads n rs =
     let l : leb 3 (length (77 ∷ 68 ∷ n ∷ rs)) ≡ true = le-leb _ _ (omega arith) in
-    λ i. cond (and_false (eqb (length (77 ∷ 68 ∷ n ∷ rs)) 9) i) (rule (step_of (77 ∷ 68 ∷ n ∷ rs)))
+    λ i. cond (and_right (eqb (length (77 ∷ 68 ∷ n ∷ rs)) 9) false refl i) (rule (step_of (77 ∷ 68 ∷ n ∷ rs)))
     (cond (l i && true) (model n rs) other)
 
--- nine bytes are their entries
-nine :
-    (bs : List ℕ) → length bs ≡ 9 →
-    bs
-    ≡ byte bs 0 ∷ byte bs 1 ∷ byte bs 2 ∷ byte bs 3 ∷ byte bs 4 ∷ byte bs 5 ∷ byte bs 6 ∷ byte bs 7 ∷ byte bs 8 ∷ []
-nine [] e = absurd (omega arith)
-nine (a ∷ []) e = absurd (omega arith)
-nine (a ∷ b ∷ []) e = absurd (omega arith)
-nine (a ∷ b ∷ c ∷ []) e = absurd (omega arith)
-nine (a ∷ b ∷ c ∷ d ∷ []) e = absurd (omega arith)
-nine (a ∷ b ∷ c ∷ d ∷ f ∷ []) e = absurd (omega arith)
-nine (a ∷ b ∷ c ∷ d ∷ f ∷ g ∷ []) e = absurd (omega arith)
-nine (a ∷ b ∷ c ∷ d ∷ f ∷ g ∷ h ∷ []) e = absurd (omega arith)
-nine (a ∷ b ∷ c ∷ d ∷ f ∷ g ∷ h ∷ i ∷ []) e = absurd (omega arith)
-nine (a ∷ b ∷ c ∷ d ∷ f ∷ g ∷ h ∷ i ∷ j ∷ []) e = refl
-nine (a ∷ b ∷ c ∷ d ∷ f ∷ g ∷ h ∷ i ∷ j ∷ k ∷ more) e = absurd (omega arith)
+-- what the bytes of a case are read as
+pub rule_is :
+    {K : CodeMeaning} {T : Trial} {bs : List ℕ} (c : ByRule K T bs) →
+    step_in bs ≡ rule (record { rule = c.r; p = c.ph * 256 + c.pl; q = c.qh * 256 + c.ql; t = c.t; w = c.w })
+rule_is c = ap step_in c.bytes
+
+pub model_is : {K : CodeMeaning} {T : Trial} {bs : List ℕ} (c : ByModel K T bs) → step_in bs ≡ model c.count c.reps
+model_is c = ap step_in c.bytes ∙ model_reads c.count c.reps
 
 -- three bytes and more are their entries and the rest
 three : (bs : List ℕ) → 3 ≤ length bs → bs ≡ byte bs 0 ∷ byte bs 1 ∷ byte bs 2 ∷ drop 3 bs
-three [] e = absurd (omega arith)
-three (a ∷ []) e = absurd (omega arith)
-three (a ∷ b ∷ []) e = absurd (omega arith)
 three (a ∷ b ∷ c ∷ more) e = refl
+three _ e = absurd (omega arith)
 
 -- what is read as a rule step
 pub read_rule :
@@ -195,16 +131,9 @@ read_rule bs x e = go (whole 9 83 84 bs) (leb 3 (length bs) && marked 77 68 bs) 
         (bs
         ≡ 83 ∷ 84 ∷ byte bs 2 ∷ byte bs 3 ∷ byte bs 4 ∷ byte bs 5 ∷ byte bs 6 ∷ byte bs 7 ∷ byte bs 8 ∷ [])
         × (step_of bs ≡ x)
-    go true c q e =
-        let s = and_split (eqb (length bs) 9) (marked 83 84 bs) q in
-        let m = and_split (eqb (byte bs 0) 83) (eqb (byte bs 1) 84) s.1 in (
-          nine bs (eqb-true _ _ s.0)
-              ∙ (λ i. eqb-true (byte bs 0) 83 m.0 i ∷ eqb-true (byte bs 1) 84 m.1 i ∷ byte bs 2 ∷ byte bs 3
-              ∷ byte bs 4 ∷ byte bs 5 ∷ byte bs 6 ∷ byte bs 7 ∷ byte bs 8 ∷ []),
-          rule_same (step_of bs) x e,
-        )
-    go false true q e = rule_not_model x (byte bs 2) (drop 3 bs) (sym e)
-    go false false q e = rule_not_other x (sym e)
+    go true c q e = (spelt 7 83 84 bs q, cc)
+    go false true q e = absurd cc
+    go false false q e = absurd cc
 
 -- what is read as a model
 pub read_model :
@@ -215,11 +144,11 @@ read_model bs n rs e = go (whole 9 83 84 bs) (leb 3 (length bs) && marked 77 68 
         (b c : Bool) → (leb 3 (length bs) && marked 77 68 bs) ≡ c →
         cond b (rule (step_of bs)) (cond c (model (byte bs 2) (drop 3 bs)) other) ≡ model n rs →
         bs ≡ 77 ∷ 68 ∷ n ∷ rs
-    go true c q e = rule_not_model (step_of bs) n rs e
+    go true c q e = absurd cc
     go false true q e =
-        let s = and_split (leb 3 (length bs)) (marked 77 68 bs) q in
-        let m = and_split (eqb (byte bs 0) 77) (eqb (byte bs 1) 68) s.1 in
-        let f = model_same (byte bs 2) n (drop 3 bs) rs e in
-        three bs (leb-true _ _ s.0)
-        ∙ (λ i. eqb-true (byte bs 0) 77 m.0 i ∷ eqb-true (byte bs 1) 68 m.1 i ∷ f.0 i ∷ f.1 i)
-    go false false q e = model_not_other n rs (sym e)
+        let s = and_parts (leb 3 (length bs)) (marked 77 68 bs) q in
+        let m = and_parts (eqb (byte bs 0) 77) (eqb (byte bs 1) 68) s.1 in
+        let en : byte bs 2 ≡ n = cc in
+        let er : drop 3 bs ≡ rs = cc in
+        cc (three bs (leb-true _ _ s.0), eqb-true (byte bs 0) 77 m.0, eqb-true (byte bs 1) 68 m.1)
+    go false false q e = absurd cc

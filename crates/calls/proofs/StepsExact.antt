@@ -1,7 +1,7 @@
 -- A step by a rule is granted exactly where the subject has a case for its bytes (`rule_step_exact`), no other
--- bytes are (`other_step_exact`, `short_model_exact`), none is once there is a verdict (`decided_step_exact`),
+-- bytes are (`other_step_exact`, `short_model_denied`), none is once there is a verdict (`decided_step_exact`),
 -- and a settle is granted exactly where there is one (`settle_exact`).
-use Rattle.std.proofs.Common.{◌≡◌, ℕ, ◌+◌, ◌*◌, ◌<◌, ◌≤◌, Bool, true, false, cond, eqb, leb, ◌⊎◌, List, [], ◌∷◌, length, Ok, Err, Result, sym, refl, ap, ◌∙◌, subst, inl, inr, arith, ne_eqb, leb-false, leb-true}
+use Rattle.std.proofs.Common.{◌≡◌, ℕ, ◌+◌, ◌*◌, ◌<◌, ◌≤◌, Bool, true, false, cond, leb, List, length, Ok, Err, Result, sym, refl, ap, subst, ⊎_elim, arith, leb-false, leb-true}
 use mathlib.Core.Option.{Option}
 use Rattle.records.specs.declared.rows.Step.{Step}
 use Rattle.records.specs.declared.refusal.Refusal.{Refusal}
@@ -12,10 +12,9 @@ use Rattle.records.specs.Verdicts.{reached_by}
 use Rattle.records.specs.Reading.{Move, rule, model, other, byte, step_of, step_in}
 use Rattle.rules.specs.declared.outcome.Outcome.{Outcome}
 use Rattle.rules.specs.declared.outcome.Outcome.TheVariants as outcome
-use Rattle.meaning.specs.Calculus.{Alt, Branch, Fork, running, Applies}
+use Rattle.meaning.specs.Calculus.{Alt, running}
 use Rattle.meaning.specs.Mixes.{undecided, Decided, Room, trying, Grants, rule_step, verdict_there}
 use Rattle.meaning.specs.Mixes as subject
-use Rattle.calls.specs.Reading.{read_sheet}
 use Rattle.calls.specs.Bridge.{AppliesTo}
 use Rattle.calls.specs.Stores.{Held}
 use Rattle.calls.specs.Sheets.{Counts}
@@ -23,34 +22,14 @@ use Rattle.calls.specs.RuleSteps.{branch_facts, come_to, Stepped, taken, left_de
 use Rattle.calls.specs.Trials.{plain_of, branch_of, moved_on, stepped_at}
 use Rattle.calls.specs.Views.{state_by, verdict_by, read_trial, Whole}
 use Rattle.calls.specs.Exact.{Denied, StepExact, SettleExact, SettleIsExact}
-use Rattle.calls.proofs.Truth.{clash}
 use Rattle.calls.proofs.Following.{open_forks, Right}
 use Rattle.calls.proofs.Steps.{come_right}
-use Rattle.calls.proofs.StepCases.{
-  ByRule,
-  ByModel,
-  told,
-  rule_reads,
-  model_reads,
-  read_rule,
-  rule_same,
-  model_same,
-  rule_not_other,
-  model_not_other,
-  rule_not_model,
-}
-
--- a running state has one branch and one list of forks
-pub running_same :
-    (b b' : Branch) (fs fs' : List Fork) → running b fs ≡ running b' fs' → (b ≡ b') × (fs ≡ fs')
-running_same b b' fs fs' e = (cc, cc)
+use Rattle.calls.proofs.StepCases.{ByRule, told, rule_is, model_is, read_rule}
 
 -- a granted step is answered so
 taken_ok : (t : Counts) (h : Held) (o : Outcome) → (taken t h o).result ≡ Ok tt
-taken_ok t h (outcome.Adds g) = refl
-taken_ok t h (outcome.Forks g f k) = refl
 taken_ok t h outcome.Closes = refl
-taken_ok t h (outcome.Resumes g f k) = refl
+taken_ok t h _ = refl
 
 -- a step left denied is right where no case grants it
 pub left :
@@ -81,26 +60,14 @@ module _ (K : ℕ → Option ℕ) (t : Counts) (h : Held) (bs : List ℕ) (w : W
       (alts : List Alt) × AppliesTo K (plain_of t h) (branch_facts t h) t.names x alts ×
       Room (branch_of t h) (open_forks t h) alts
   told_rule x e c =
-      let same =
-      rule_same x _
-      (sym e ∙ ap step_in c.bytes
-      ∙ rule_reads c.r c.ph c.pl c.qh c.ql c.t c.w) in
-      let here = running_same (branch_of t h) c.branch (open_forks t h) c.forks (sym runs ∙ c.state) in (
+      let same : x ≡ record { rule = c.r; p = c.ph * 256 + c.pl; q = c.qh * 256 + c.ql; t = c.t; w = c.w } =
+      cc (e, rule_is c) in
+      let at_branch : c.branch ≡ branch_of t h = cc (runs, c.state) in
+      let at_forks : c.forks ≡ open_forks t h = cc (runs, c.state) in (
         c.alts,
-        subst (λ (z : Step). AppliesTo K (plain_of t h) (branch_facts t h) t.names z c.alts) (sym same)
-            (subst
-            (λ (z : Branch).
-            Applies K (read_sheet (plain_of t h)) z c.r (c.ph * 256 + c.pl) (c.qh * 256 + c.ql) c.t c.w
-            c.alts)
-            (sym here.0) c.applies),
-        subst (λ (z : Branch). Room z (open_forks t h) c.alts) (sym here.0)
-            (subst (λ (z : List Fork). Room c.branch z c.alts) (sym here.1) c.room),
+        rw (same, ← at_branch) c.applies,
+        rw (← at_branch, ← at_forks) c.room,
       )
-
-  -- bytes read as a rule step are no model
-  not_model : {X : Type 0} (x : Step) → step_in bs ≡ rule x → ByModel K (read_trial t h) bs → X
-  not_model x e c =
-      rule_not_model x c.count c.reps (sym e ∙ ap step_in c.bytes ∙ model_reads c.count c.reps)
 
   -- granted, or refused, as the step is right to come to
   by_outcome :
@@ -110,27 +77,15 @@ module _ (K : ℕ → Option ℕ) (t : Counts) (h : Held) (bs : List ℕ) (w : W
       let r = read_rule bs x e in
       let a : AppliesTo K (plain_of t h) (branch_facts t h) t.names (step_of bs) g.0 =
       subst (λ (z : Step). AppliesTo K (plain_of t h) (branch_facts t h) t.names z g.0) (sym r.1) g.1 in
-      subst (λ (z : Result (Unit {0}) Refusal). StepExact K t h bs (taken t h o).trial (taken t h o).stores z)
-      (sym (taken_ok t h o)) (
+      rw (taken_ok t h o) (
         g.3,
-        subst
-            (λ (z : List ℕ). Grants K (trying (read_trial t h)) (subject.step z)
-            (trying (read_trial (taken t h o).trial (taken t h o).stores)))
-            (sym r.0)
-            (subst
-            (λ (z : subject.Trial). Grants K (trying (read_trial t h))
-            (subject.step
-            (83 ∷ 84 ∷ byte bs 2 ∷ byte bs 3 ∷ byte bs 4 ∷ byte bs 5 ∷ byte bs 6 ∷ byte bs 7 ∷ byte bs 8 ∷ []))
-            (trying z))
-            (sym g.4)
+        rw (r.0, g.4)
             (rule_step (byte bs 2) (byte bs 3) (byte bs 4) (byte bs 5) (byte bs 6) (byte bs 7) (byte bs 8) no_verdict
-            runs room a g.2)),
+            runs room a g.2),
       )
-  by_outcome x e room (Err r) never = left K t h bs r (λ st' g. by_case (told g).2)
-    where
-      by_case : ByRule K (read_trial t h) bs ⊎ ByModel K (read_trial t h) bs → ⊥
-      by_case (inl c) = let m = told_rule x e c in never m.0 m.1 m.2
-      by_case (inr c) = not_model x e c
+  by_outcome x e room (Err r) never =
+      left K t h bs r
+      (λ st' g. ⊎_elim (λ c. let m = told_rule x e c in never m.0 m.1 m.2) (λ c. cc (e, model_is c)) (told g).2)
 
   -- what a step left is exact
   abbrev LeftExact : Stepped → Type 0
@@ -149,44 +104,15 @@ module _ (K : ℕ → Option ℕ) (t : Counts) (h : Held) (bs : List ℕ) (w : W
   other_exact :
       step_in bs ≡ other →
       StepExact K t h bs (moved_on K t h other).trial (moved_on K t h other).stores (moved_on K t h other).result
-  other_exact e = left K t h bs NotStep (λ st' g. by_case (told g).2)
-    where
-      by_case : ByRule K (read_trial t h) bs ⊎ ByModel K (read_trial t h) bs → ⊥
-      by_case (inl c) =
-          rule_not_other _
-          (sym (rule_reads c.r c.ph c.pl c.qh c.ql c.t c.w) ∙ sym (ap step_in c.bytes) ∙ e)
-      by_case (inr c) =
-          model_not_other c.count c.reps
-          (sym (model_reads c.count c.reps) ∙ sym (ap step_in c.bytes) ∙ e)
+  other_exact e =
+      left K t h bs NotStep (λ st' g. ⊎_elim (λ c. cc (e, rule_is c)) (λ c. cc (e, model_is c)) (told g).2)
 
   -- a model with another number of representatives than it says
   pub short_model_denied :
       (n : ℕ) (rs : List ℕ) → step_in bs ≡ model n rs → (length rs ≡ n → ⊥) →
       Denied K (trying (read_trial t h)) (subject.step bs)
-  short_model_denied n rs e short = λ st' g. by_case (told g).2
-    where
-      by_case : ByRule K (read_trial t h) bs ⊎ ByModel K (read_trial t h) bs → ⊥
-      by_case (inl c) =
-          rule_not_model _ n rs
-          (sym (rule_reads c.r c.ph c.pl c.qh c.ql c.t c.w) ∙ sym (ap step_in c.bytes) ∙ e)
-      by_case (inr c) =
-          let same =
-          model_same c.count n c.reps rs
-          (sym (model_reads c.count c.reps) ∙ sym (ap step_in c.bytes) ∙ e) in
-          short (ap length (sym same.1) ∙ c.counted ∙ same.0)
-
-  short_exact :
-      (n : ℕ) (rs : List ℕ) → step_in bs ≡ model n rs → (length rs ≡ n → ⊥) →
-      StepExact K t h bs (moved_on K t h (model n rs)).trial (moved_on K t h (model n rs)).stores
-      (moved_on K t h (model n rs)).result
-  short_exact n rs e short = go (eqb (length rs) n) (ne_eqb (length rs) n short) _
-    where
-      go :
-          (b : Bool) → b ≡ false → (s : Stepped) →
-          StepExact K t h bs (cond b s (left_denied t h NotStep)).trial (cond b s (left_denied t h NotStep)).stores
-          (cond b s (left_denied t h NotStep)).result
-      go true q s = clash (sym q)
-      go false q s = left K t h bs NotStep (short_model_denied n rs e short)
+  short_model_denied n rs e short = λ st' g.
+      ⊎_elim (λ c. cc (e, rule_is c)) (λ c. let q = model_is c in let s = c.counted in short cc) (told g).2
 
 pub rule_step_exact :
     (K : ℕ → Option ℕ) (t : Counts) (h : Held) (bs : List ℕ) (x : Step) → Whole t h →
@@ -201,13 +127,6 @@ pub other_step_exact :
     StepExact K t h bs (moved_on K t h other).trial (moved_on K t h other).stores (moved_on K t h other).result
 other_step_exact K t h bs w un e = other_exact K t h bs w un e
 
-pub short_model_exact :
-    (K : ℕ → Option ℕ) (t : Counts) (h : Held) (bs : List ℕ) (n : ℕ) (rs : List ℕ) → Whole t h →
-    t.verdict ≡ verdict.Undecided → step_in bs ≡ model n rs → (length rs ≡ n → ⊥) →
-    StepExact K t h bs (moved_on K t h (model n rs)).trial (moved_on K t h (model n rs)).stores
-    (moved_on K t h (model n rs)).result
-short_model_exact K t h bs n rs w un e short = short_exact K t h bs w un n rs e short
-
 -- ── once there is a verdict ────────────────────────────────────────────────
 
 -- no step is granted where there is a verdict
@@ -220,13 +139,10 @@ pub decided_step_exact :
     (K : ℕ → Option ℕ) (t : Counts) (h : Held) (bs : List ℕ) (v : Verdict) → t.verdict ≡ v →
     reached_by v ≡ true → (m : Move) →
     StepExact K t h bs (stepped_at v K t h m).trial (stepped_at v K t h m).stores (stepped_at v K t h m).result
-decided_step_exact K t h bs verdict.Undecided e r m = clash r
-decided_step_exact K t h bs verdict.Closed e r m =
+decided_step_exact K t h bs verdict.Undecided e r m = absurd cc
+decided_step_exact K t h bs _ e r m =
     left K t h bs VerdictReached
-    (decided_denied K t h bs (subst (λ (v : Verdict). Decided (verdict_by v t h)) (sym e) tt))
-decided_step_exact K t h bs verdict.Open e r m =
-    left K t h bs VerdictReached
-    (decided_denied K t h bs (subst (λ (v : Verdict). Decided (verdict_by v t h)) (sym e) tt))
+    (decided_denied K t h bs (rw e tt))
 
 -- ── settle ─────────────────────────────────────────────────────────────────
 
@@ -235,5 +151,4 @@ settle_exact K t h w = go t.verdict refl
   where
     go : (v : Verdict) → t.verdict ≡ v → SettleExact K t h (cond (reached_by v) (Ok tt) (Err NoVerdict))
     go verdict.Undecided e = λ st' g. subst (λ (v : Verdict). Decided (verdict_by v t h)) e (told g)
-    go verdict.Closed e = verdict_there (subst (λ (v : Verdict). Decided (verdict_by v t h)) (sym e) tt)
-    go verdict.Open e = verdict_there (subst (λ (v : Verdict). Decided (verdict_by v t h)) (sym e) tt)
+    go _ e = verdict_there (rw e tt)

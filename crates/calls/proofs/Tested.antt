@@ -1,6 +1,8 @@
 -- A term row, or a constraint, that passes its tests fits (`row_fits`, `fact_fits`).
 use Rattle.std.proofs.Common.{◌≡◌, ℕ, zero, suc, ◌+◌, ◌-◌, ◌<◌, ◌≤◌, Bool, true, false, cond, eqb, ltb, leb, List, [], ◌∷◌, length, take, sym, refl, ap, ◌∙◌, subst, arith, ltb-true, ne_eqb, eqb-true, leb-true}
+use Rattle.std.proofs.lemmas.Bool.{and_parts}
 use Rattle.std.specs.List.{AllByRecursion}
+use Rattle.std.proofs.lemmas.Bool.{false≢true}
 use Rattle.records.specs.declared.rows.Fact.{Fact as FactRow}
 use Rattle.records.specs.declared.rows.TermRow.{TermRow}
 use Rattle.records.specs.Tuples as tuple
@@ -12,8 +14,9 @@ use Rattle.meaning.specs.Terms.{Form, member, equal, same, names, Before, Arity,
 use Rattle.calls.specs.Reading.{op_of, write_op, RowFits, RowsFit, four, names_of, read_row, tuple_of, read_form}
 use Rattle.calls.specs.Reading.{write_form, Plain, read_sheet, FactFits}
 use Rattle.calls.specs.Tests.{places, in_tests, eq_tests, same_tests, fact_ok, row_tests, row_ok}
-use Rattle.calls.proofs.Truth.{clash, and_split, all_true}
+use Rattle.calls.proofs.Truth.{all_true}
 use Rattle.calls.proofs.Lookups.{there_at}
+use Rattle.calls.proofs.Forms.{form_of}
 use Rattle.calls.proofs.Rows.{arity_there}
 
 -- a tuple of arity k in four fields, the others zero
@@ -196,15 +199,15 @@ module _ (P : Plain) where
     by_op (suc (suc (suc (suc (suc (suc (suc (suc (suc (suc k)))))))))) ek h =
         let o = suc (suc (suc (suc (suc (suc (suc (suc (suc (suc k))))))))) in
         let e = past_nine (names (read_sheet P)) t (arity r.a) (arity r.b) r o (omega arith) in
-        clash (subst (AllByRecursion (λ b. b ≡ true)) e h).0
+        absurd (false≢true (subst (AllByRecursion (λ b. b ≡ true)) e h).0)
 
   -- a term row that passes its tests fits
   pub row_fits :
       (t : ℕ) (r : TermRow) → t ≤ length P.rows → row_ok P.rows (names (read_sheet P)) t r ≡ true →
       RowFits P t r
   row_fits t r lt e =
-      let p = and_split (leb 1 r.arity) _ e in
-      let q = and_split (leb r.arity 4) _ p.1 in
+      let p = and_parts (leb 1 r.arity) _ e in
+      let q = and_parts (leb r.arity 4) _ p.1 in
       let tests = row_tests (names (read_sheet P)) t (arity r.a) (arity r.b) r r.op in
       by_op t r lt (leb-true _ _ p.0) (leb-true _ _ q.0) r.op refl (all_true tests q.1)
 
@@ -218,9 +221,7 @@ module _ (P : Plain) where
 
     -- its form, if that has the number k
     abbrev form_at : ℕ → Form
-    form_at k =
-        cond (eqb k 1) (member (tuple_of P.rows f) f.term)
-        (cond (eqb k 2) (equal f.a f.b) (same f.term f.a))
+    form_at k = form_of (tuple_of P.rows f) f k
 
     -- the fact fits by its form u, number k, where it is written so
     form_back :
@@ -251,7 +252,7 @@ module _ (P : Plain) where
         }
 
     by_same : (z : Bool) → eqb f.form 3 ≡ z → cond z (all_of same_list) false ≡ true → FactFits P n f
-    by_same false q e = clash e
+    by_same false q e = absurd cc
     by_same true q e =
         let ek = eqb-true f.form 3 q in
         let h = all_true same_list e in

@@ -5,12 +5,9 @@ use Rattle.std.specs.List.{AllByRecursion}
 use Rattle.records.specs.declared.rows.Fact.{Fact as FactRow}
 use Rattle.rules.specs.declared.cited.Alt.{Alt as AltRow}
 use Rattle.meaning.specs.Terms.{Form, member, equal, same, Fact, signed, FormFits}
-use Rattle.meaning.specs.Calculus.{Alt, equalities, Rule, inter_up, inter_down, union_up, union_down, diff_up}
-use Rattle.meaning.specs.Calculus.{diff_down, single_up, single_down, empty_unsat, set_diseq, eq_unsat_names}
-use Rattle.meaning.specs.Calculus.{eq_unsat_terms, eq_unsat_both, transp_up, transp_down, join_up, join_down}
-use Rattle.meaning.specs.Calculus.{prod_up, prod_down, tclos_up_one, tclos_up_two, tclos_down, sym_names}
-use Rattle.meaning.specs.Calculus.{sym_terms, swap_name_member, swap_name_left, swap_name_right}
-use Rattle.meaning.specs.Calculus.{swap_term_member, swap_term_left, swap_term_right, label_unsat, label_same}
+use Rattle.meaning.specs.Calculus.{Alt, equalities, Rule}
+use Rattle.meaning.specs.Calculus.{single_down}
+use Rattle.meaning.specs.Calculus.{tclos_down}
 use Rattle.calls.specs.Reading.{four, read_form, read_fact, write_fact, write_form, write_alt, read_alt, alt_facts}
 use Rattle.calls.specs.Reading.{Plain, read_sheet, FactFits, Good}
 use Rattle.meaning.proofs.RuleFits.{form_up, Fits, AltsFit}
@@ -25,7 +22,7 @@ took (x ∷ []) h = refl
 took (x ∷ y ∷ []) h = refl
 took (x ∷ y ∷ z ∷ []) h = refl
 took (x ∷ y ∷ z ∷ v ∷ []) h = refl
-took (x ∷ y ∷ z ∷ v ∷ o ∷ u) h = absurd (omega arith)
+took _ h = absurd (omega arith)
 
 -- there are no more equalities than places
 few_equalities : (u v : List ℕ) → length (equalities u v) ≤ length u
@@ -66,15 +63,12 @@ module _ (K : ℕ → Option ℕ) (P : Plain) (good : Good P) where
       (m : ℕ) (fs : List Fact) → length fs ≤ 4 → FormsFit m fs →
       (read_alt P.rows (row_of_facts fs)).facts ≡ fs
   facts_back m [] l b = refl
-  facts_back m (f ∷ []) l b = λ i. fact_back m f b.0 i ∷ []
-  facts_back m (f ∷ g ∷ []) l b = λ i. fact_back m f b.0 i ∷ fact_back m g b.1.0 i ∷ []
-  facts_back m (f ∷ g ∷ h ∷ []) l b =
-      λ i. fact_back m f b.0 i ∷ fact_back m g b.1.0 i ∷ fact_back m h b.1.1.0 i ∷ []
+  facts_back m (f ∷ []) l b = cc (fact_back m f b.0)
+  facts_back m (f ∷ g ∷ []) l b = cc (fact_back m f b.0, fact_back m g b.1.0)
+  facts_back m (f ∷ g ∷ h ∷ []) l b = cc (fact_back m f b.0, fact_back m g b.1.0, fact_back m h b.1.1.0)
   facts_back m (f ∷ g ∷ h ∷ k ∷ []) l b =
-      λ i.
-      fact_back m f b.0 i ∷ fact_back m g b.1.0 i ∷
-      fact_back m h b.1.1.0 i ∷ fact_back m k b.1.1.1.0 i ∷ []
-  facts_back m (f ∷ g ∷ h ∷ k ∷ j ∷ fs) l b = absurd (omega arith)
+      cc (fact_back m f b.0, fact_back m g b.1.0, fact_back m h b.1.1.0, fact_back m k b.1.1.1.0)
+  facts_back m _ l b = absurd (omega arith)
 
   pub alts_back :
       (n : ℕ) (alts : List Alt) → Few alts → AltsFit K (read_sheet P) (full P good) n alts →
@@ -82,48 +76,19 @@ module _ (K : ℕ → Option ℕ) (P : Plain) (good : Good P) where
   alts_back n [] l b = refl
   alts_back n (a ∷ alts) l b =
       let e = facts_back (n + a.fresh) a.facts l.0 b.0 in
-      ap₂ ◌∷◌ (λ i. record { fresh = a.fresh; facts = e i }) (alts_back n alts l.1 b.1)
+      ap₂ ◌∷◌ (λ i. record a { facts = e i }) (alts_back n alts l.1 b.1)
 
   -- ── no alternative has more than four facts ──────────────────────────────
 
   pub few :
       {n r t w : ℕ} {ps : List Fact} {alts : List Alt} → Rule K (read_sheet P) n r t w ps alts →
       AllByRecursion (Fits K (read_sheet P) (full P good) n) ps → Few alts
-  few (inter_up is) b = (omega arith, tt)
-  few (inter_down is) b = (omega arith, tt)
-  few (union_up is e) b = (omega arith, tt)
-  few (union_down is) b = (omega arith, (omega arith, tt))
-  few (diff_up is) b = (omega arith, (omega arith, tt))
-  few (diff_down is) b = (omega arith, tt)
-  few (single_up is) b = (omega arith, tt)
   few (single_down {u = u} {v = v} is) b =
       let l = arity_low P good b.0.0 in
       let h = few_equalities u v in
       (omega arith, tt)
-  few (empty_unsat is) b = tt
-  few (set_diseq x y) b = (omega arith, (omega arith, tt))
-  few eq_unsat_names b = tt
-  few eq_unsat_terms b = tt
-  few eq_unsat_both b = tt
-  few (transp_up is) b = (omega arith, tt)
-  few (transp_down is) b = (omega arith, tt)
-  few (join_up x y is) b = (omega arith, tt)
-  few (join_down x y is ar) b = (omega arith, tt)
-  few (prod_up is) b = (omega arith, tt)
-  few (prod_down x y is ar) b = (omega arith, tt)
-  few (tclos_up_one is) b = (omega arith, tt)
-  few (tclos_up_two is) b = (omega arith, tt)
-  few (tclos_down is) b = (omega arith, (omega arith, (omega arith, tt)))
-  few sym_names b = (omega arith, tt)
-  few sym_terms b = (omega arith, tt)
-  few (swap_name_member x y) b = (omega arith, tt)
-  few swap_name_left b = (omega arith, tt)
-  few swap_name_right b = (omega arith, tt)
-  few swap_term_member b = (omega arith, tt)
-  few swap_term_left b = (omega arith, tt)
-  few swap_term_right b = (omega arith, tt)
-  few (label_unsat x y ne) b = tt
-  few (label_same x y) b = (omega arith, tt)
+  few (tclos_down is) b = search arith
+  few _ b = search arith
 
   -- ── what is written fits ─────────────────────────────────────────────────
 
@@ -147,7 +112,7 @@ module _ (K : ℕ → Option ℕ) (P : Plain) (good : Good P) where
     fact_kept m f b.0,
     (fact_kept m g b.1.0, (fact_kept m h b.1.1.0, (fact_kept m k b.1.1.1.0, tt))),
   )
-  facts_kept m (f ∷ g ∷ h ∷ k ∷ j ∷ fs) l b = absurd (omega arith)
+  facts_kept m _ l b = absurd (omega arith)
 
   pub alts_kept :
       (n : ℕ) (alts : List Alt) → Few alts → AltsFit K (read_sheet P) (full P good) n alts →

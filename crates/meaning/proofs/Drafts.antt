@@ -1,48 +1,24 @@
 -- A sheet that is full stays full as its rows come in: `full_fresh`, `full_code`, `full_row`, `full_constraint`.
-use Rattle.std.proofs.Common.{◌≡◌, ℕ, zero, suc, ◌+◌, ◌<◌, ◌≤◌, ◌⊎◌, List, [], ◌∷◌, ◌++◌, length, sym, refl, ap, subst, inl, inr, ⊎_elim, arith, length-append}
-use mathlib.Core.Option.{some, some-injective}
-use lib.ListN.{get_elem?}
+use Rattle.std.proofs.Common.{◌≡◌, ℕ, ◌+◌, ◌<◌, ◌≤◌, List, [], ◌∷◌, ◌++◌, length, sym, subst, ⊎_elim, arith, length-append}
 use Rattle.std.proofs.ByRecursion.{All-append, All-weaker}
-use Rattle.meaning.specs.Terms.{Op, variable, empty, single, union, inter, diff, transp, prod, join, closure, Row, Form, member, equal, same, Fact, Sheet, names, Arity, Before, OpFits, FormFits, Full}
+use Rattle.meaning.specs.Terms.{Op, single, union, inter, diff, transp, prod, join, closure, Row, Form, member, equal, same, Fact, Sheet, names, Arity, Before, OpFits, FormFits, Full}
 use Rattle.meaning.specs.Mixes.{Header, fresh, with_code, with_row, with_constraint}
+use Rattle.meaning.proofs.Lookups.{ahead, last_or_before}
 use Rattle.meaning.proofs.RuleFits.{form_up}
-
--- what is found in a list is found in a longer one, and what is found there was there before or is new
-pub found_more : {X : Type 0} (l m : List X) (i : ℕ) (x : X) → get_elem? l i ≡ some x → get_elem? (l ++ m) i ≡ some x
-found_more [] m i x h = absurd (let z : ◌≡◌ {A = ℕ} 0 1 = cc in omega arith)
-found_more (y ∷ l) m zero x h = h
-found_more (y ∷ l) m (suc i) x h = found_more l m i x h
-
-pub found_last : {X : Type 0} (l : List X) (y : X) (i : ℕ) (x : X) → get_elem? (l ++ (y ∷ [])) i ≡ some x → (get_elem? l i ≡ some x) ⊎ ((i ≡ length l) × (y ≡ x))
-found_last [] y zero x h = inr (refl, some-injective _ _ h)
-found_last [] y (suc i) x h = absurd (let z : ◌≡◌ {A = ℕ} 0 1 = cc in omega arith)
-found_last (z ∷ l) y zero x h = inl h
-found_last (z ∷ l) y (suc i) x h = ⊎_elim (λ p. inl p) (λ p. inr (ap suc p.0, p.1)) (found_last l y i x h)
 
 -- rows and constraints still fit when another name or another row comes in
 pub op_up : (rs : List Row) (n m : ℕ) → n ≤ m → (t k : ℕ) (o : Op) → OpFits rs n t k o → OpFits rs m t k o
-op_up rs n m l t k variable f = tt
-op_up rs n m l t k empty f = tt
 op_up rs n m l t k (single v) f = (f.0, All-weaker (λ i. i < n) (λ i. i < m) (λ i h. omega arith) v f.1)
-op_up rs n m l t k (union s r) f = f
-op_up rs n m l t k (inter s r) f = f
-op_up rs n m l t k (diff s r) f = f
-op_up rs n m l t k (transp s) f = f
-op_up rs n m l t k (prod s r) f = f
-op_up rs n m l t k (join s r) f = f
-op_up rs n m l t k (closure s) f = f
+op_up rs n m l t k _ f = f
 
 module _ (rs ms : List Row) where
   arity_more : (t k : ℕ) → Arity rs t k → Arity (rs ++ ms) t k
-  arity_more t k a = record { op = a.op; row = found_more rs ms t _ a.row }
+  arity_more t k a = record { op = a.op; row = ahead rs ms t _ a.row }
 
   before_more : (t s k : ℕ) → Before rs t s k → Before (rs ++ ms) t s k
   before_more t s k b = (b.0, arity_more s k b.1)
 
   pub op_more : (n t k : ℕ) (o : Op) → OpFits rs n t k o → OpFits (rs ++ ms) n t k o
-  op_more n t k variable f = tt
-  op_more n t k empty f = tt
-  op_more n t k (single v) f = f
   op_more n t k (union s r) f = (before_more t s k f.0, before_more t r k f.1)
   op_more n t k (inter s r) f = (before_more t s k f.0, before_more t r k f.1)
   op_more n t k (diff s r) f = (before_more t s k f.0, before_more t r k f.1)
@@ -50,6 +26,7 @@ module _ (rs ms : List Row) where
   op_more n t k (prod s r) f = (f.0, f.1, before_more t s f.0 f.2, before_more t r f.1 f.3, f.4)
   op_more n t k (join s r) f = (f.0, f.1, before_more t s (f.0 + 1) f.2, before_more t r (f.1 + 1) f.3, f.4)
   op_more n t k (closure s) f = (before_more t s 2 f.0, f.1)
+  op_more n t k _ f = f
 
   pub form_more : (n : ℕ) (f : Form) → FormFits rs n f → FormFits (rs ++ ms) n f
   form_more n (member u t) h = (arity_more t (length u) h.0, h.1)
@@ -57,7 +34,7 @@ module _ (rs ms : List Row) where
   form_more n (same s r) h = (h.0, arity_more s h.0 h.1, arity_more r h.0 h.2)
 
 pub full_fresh : (H : Header) → Full (fresh H).sheet
-full_fresh H = record { rows_fit = λ t o k h. absurd (let z : ◌≡◌ {A = ℕ} 0 1 = cc in omega arith); constraints_fit = tt }
+full_fresh H = record { rows_fit = λ t o k h. absurd cc; constraints_fit = tt }
 
 pub full_code : (S : Sheet) (c : ℕ) → Full S → Full (with_code S c)
 full_code S c f =
@@ -69,7 +46,7 @@ full_code S c f =
 
 pub full_row : (S : Sheet) (r : Row) → Full S → OpFits S.rows (names S) (length S.rows) r.arity r.op → Full (with_row S r)
 full_row S r f h = record {
-  rows_fit = λ t o k q. ⊎_elim (λ p. more t k o (f.rows_fit t o k p)) (λ p. last t o k p.0 p.1) (found_last S.rows r t _ q);
+  rows_fit = λ t o k q. ⊎_elim (λ p. more t k o (f.rows_fit t o k p)) (λ p. last t o k p.0 p.1) (last_or_before S.rows r t _ q);
   constraints_fit = All-weaker (λ (x : Fact). FormFits S.rows (names S) x.form) (λ (x : Fact). FormFits (S.rows ++ (r ∷ [])) (names S) x.form) (λ x. form_more S.rows (r ∷ []) (names S) x.form) S.constraints f.constraints_fit;
 }
   where

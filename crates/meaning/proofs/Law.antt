@@ -62,7 +62,7 @@ module _ (K : ℕ → Option ℕ) (T : Trial) (f : Tried K T) where
 
 -- whether a sheet is satisfiable does not depend on its free names, nor does which labels are the same
 with_free : Sheet → ℕ → Sheet
-with_free S n = record { codes = S.codes; free = n; rows = S.rows; constraints = S.constraints }
+with_free S n = record S { free = n }
 
 same_but_free : (S S' : Sheet) → SameRows S S' → with_free S S'.free ≡ S'
 unfolding with_free

@@ -1,6 +1,7 @@
 -- Soundness of the calculus and of models, what listings tell, what every mix keeps, and the law of verdicts.
 pub mod Decoded
 pub mod Lengths
+pub mod Lookups
 pub mod Names
 pub mod RuleSound
 pub mod RuleFits

@@ -5,7 +5,7 @@ use mathlib.Core.List.{Memᴰ as Mem}
 use mathlib.Core.Option.{Option}
 use lib.ListN.{get_elem?}
 use Rattle.std.proofs.lemmas.Bool.{eqb-true, eq-eqb}
-use Rattle.meaning.specs.Terms.{Form, member, equal, same, Fact, Sheet}
+use Rattle.meaning.specs.Terms.{Form, member, Fact, Sheet}
 use Rattle.meaning.specs.Meaning.{Thing, Interp}
 use Rattle.meaning.specs.Model.{rep, thing, on_term, tuples, row_is_variable, held, Listed}
 use Rattle.meaning.specs.Text.{Line, opened, name, inside}
@@ -31,7 +31,7 @@ of_name_line (q ∷ rs) k e r m = ⊎_elim here (λ m'. later (of_name_line rs (
 
 no_tuple_there : (rs : List ℕ) (k t : ℕ) (us : List ℕ) → Mem (inside t us) (name_lines rs k) → ⊥
 no_tuple_there [] k t us m = Memᴰ.not-nil m
-no_tuple_there (r ∷ rs) k t us m = ⊎_elim (λ p. let z : ◌≡◌ {A = ℕ} 0 1 = cc in omega arith) (no_tuple_there rs (k + 1) t us) (Memᴰ.cases_cons m)
+no_tuple_there (r ∷ rs) k t us m = ⊎_elim (λ p. cc) (no_tuple_there rs (k + 1) t us) (Memᴰ.cases_cons m)
 
 module _ (S : Sheet) (rs : List ℕ) where
   abbrev holds_tuples : ℕ → Bool
@@ -42,13 +42,10 @@ module _ (S : Sheet) (rs : List ℕ) where
   no_name_in e r true (member u t) m = go (holds_tuples t) m
     where
       go : (b : Bool) → Mem (name e r) (cond b (inside t (map (rep rs) u) ∷ []) []) → ⊥
-      go true m' = let p = Memᴰ.eq_of_singleton m' in let z : ◌≡◌ {A = ℕ} 0 1 = cc in omega arith
+      go true m' = let p = Memᴰ.eq_of_singleton m' in cc
       go false m' = Memᴰ.not-nil m'
   no_name_in e r false (member u t) m = Memᴰ.not-nil m
-  no_name_in e r true (equal a b) m = Memᴰ.not-nil m
-  no_name_in e r false (equal a b) m = Memᴰ.not-nil m
-  no_name_in e r true (same s q) m = Memᴰ.not-nil m
-  no_name_in e r false (same s q) m = Memᴰ.not-nil m
+  no_name_in e r _ _ m = Memᴰ.not-nil m
 
   no_name_there : (e r : ℕ) (cs : List Fact) → Mem (name e r) (in_lines S rs cs) → ⊥
   no_name_there e r [] m = Memᴰ.not-nil m
@@ -62,10 +59,7 @@ module _ (S : Sheet) (rs : List ℕ) where
         go true = Mem.tail m
         go false = m
     on_more v false (member u s) ws m = m
-    on_more v true (equal a b) ws m = m
-    on_more v false (equal a b) ws m = m
-    on_more v true (same s r) ws m = m
-    on_more v false (same s r) ws m = m
+    on_more v _ _ ws m = m
 
     -- a tuple's line comes from a positive fact on a variable
     abbrev From : List ℕ → List (List ℕ) → Type 0
@@ -82,10 +76,7 @@ module _ (S : Sheet) (rs : List ℕ) where
             (ap holds_tuples (sym x) ∙ e, (u, subst (λ (b : Bool). Mem u (cond b (u ∷ ws) ws)) (sym (eq-eqb s t x)) (Mem.head refl), y))
         go false e m' = absurd (Memᴰ.not-nil m')
     of_fact_line us false (member u s) ws m = absurd (Memᴰ.not-nil m)
-    of_fact_line us true (equal a b) ws m = absurd (Memᴰ.not-nil m)
-    of_fact_line us false (equal a b) ws m = absurd (Memᴰ.not-nil m)
-    of_fact_line us true (same s r) ws m = absurd (Memᴰ.not-nil m)
-    of_fact_line us false (same s r) ws m = absurd (Memᴰ.not-nil m)
+    of_fact_line us _ _ ws m = absurd (Memᴰ.not-nil m)
 
     of_tuple_line : (us : List ℕ) (cs : List Fact) → Mem (inside t us) (in_lines S rs cs) → From us (tuples cs t)
     of_tuple_line us [] m = absurd (Memᴰ.not-nil m)
@@ -107,10 +98,7 @@ module _ (S : Sheet) (rs : List ℕ) where
             (Memᴰ.cases_cons m')
         go false q m' = Memᴰ.append_right (in_line S rs true (member u s)) (later m')
     fact_line v false (member u s) ws ls e later m = later m
-    fact_line v true (equal a b) ws ls e later m = later m
-    fact_line v false (equal a b) ws ls e later m = later m
-    fact_line v true (same s r) ws ls e later m = later m
-    fact_line v false (same s r) ws ls e later m = later m
+    fact_line v _ _ ws ls e later m = later m
 
     tuple_line : (v : List ℕ) (cs : List Fact) → holds_tuples t ≡ true → Mem v (tuples cs t) → Mem (inside t (map (rep rs) v)) (in_lines S rs cs)
     tuple_line v [] e m = absurd (Memᴰ.not-nil m)
@@ -130,7 +118,7 @@ module _ (S : Sheet) (rs : List ℕ) where
         Mem.tail (Memᴰ.append_left (in_lines S rs cs) (subst (λ (i : ℕ). Mem (name i (rep rs e)) (name_lines rs 0)) z (name_line rs 0 e l)))
 
     pub listed_name : (e r : ℕ) → Mem (name e r) lines → r ≡ rep rs e
-    listed_name e r m = ⊎_elim (λ p. absurd (let z : ◌≡◌ {A = ℕ} 0 1 = cc in omega arith)) (λ m'. ⊎_elim there (λ k. absurd (no_name_there e r cs k)) (Memᴰ.append_cases (name_lines rs 0) m')) (Memᴰ.cases_cons m)
+    listed_name e r m = ⊎_elim (λ p. absurd cc) (λ m'. ⊎_elim there (λ k. absurd (no_name_there e r cs k)) (Memᴰ.append_cases (name_lines rs 0) m')) (Memᴰ.cases_cons m)
       where
         there : Mem (name e r) (name_lines rs 0) → r ≡ rep rs e
         there k = let p = of_name_line rs 0 e r k in let q : e ≡ 0 + p.0 = p.1 in let x : p.0 ≡ e = omega arith in p.2 ∙ ap (rep rs) x
@@ -141,7 +129,7 @@ module _ (S : Sheet) (rs : List ℕ) where
         Mem.tail (Memᴰ.append_right (name_lines rs 0) (tuple_line t v cs h.0 h.1))
 
     pub listed_tuple : (t : ℕ) (us : List ℕ) → Mem (inside t us) lines → (v : List ℕ) × Mem v (held S cs t) × (us ≡ map (rep rs) v)
-    listed_tuple t us m = ⊎_elim (λ p. absurd (let z : ◌≡◌ {A = ℕ} 0 1 = cc in omega arith)) (λ m'. ⊎_elim (λ k. absurd (no_tuple_there rs 0 t us k)) there (Memᴰ.append_cases (name_lines rs 0) m')) (Memᴰ.cases_cons m)
+    listed_tuple t us m = ⊎_elim (λ p. absurd cc) (λ m'. ⊎_elim (λ k. absurd (no_tuple_there rs 0 t us k)) there (Memᴰ.append_cases (name_lines rs 0) m')) (Memᴰ.cases_cons m)
       where
         there : Mem (inside t us) (in_lines S rs cs) → (v : List ℕ) × Mem v (held S cs t) × (us ≡ map (rep rs) v)
         there k = let p = of_tuple_line t us cs k in (p.1.0, subst (λ (b : Bool). Mem p.1.0 (cond b (tuples cs t) [])) (sym p.0) p.1.1, p.1.2)

@@ -1,25 +1,21 @@
 -- Lawful representatives list an interpretation, and it satisfies what holds by name: `models`; so for every meaning that agrees on which labels are the same: `agrees`.
-use Rattle.std.proofs.Common.{◌≡◌, ℕ, zero, suc, ◌<◌, ◌≤◌, Bool, true, false, cond, T, eqb, List, [], ◌∷◌, map, length, sym, refl, ap, ◌∙◌, subst, ap₂, ⊎_elim, arith, eqb→eq}
+use Rattle.std.proofs.Common.{◌≡◌, ℕ, ◌<◌, ◌≤◌, Bool, true, false, cond, T, eqb, ◌↔◌, List, [], ◌∷◌, map, length, sym, refl, ap, ◌∙◌, subst, ap₂, ⊎_elim, arith, eqb→eq}
 use mathlib.Core.HLevel.{Σ_prop_path, hedberg}
 use mathlib.Core.List.Memᴰ
 use mathlib.Core.List.{map-map, Memᴰ as Mem}
-use mathlib.Core.Option.{Option, none}
+use mathlib.Core.Option.{Option}
 use native.Mathlib.Decide.{dec_lt, ℕ_discrete}
 use lib.ListN.{get_elem?, length-map}
 use Rattle.std.specs.List.{AllByRecursion}
 use Rattle.std.proofs.lemmas.List.{get_or_past}
-use Rattle.meaning.specs.Terms.{variable, Row, Form, member, equal, same, Fact, Sheet, Arity, Full, FormFits}
+use Rattle.meaning.specs.Terms.{variable, Row, Form, member, Fact, Sheet, Arity, Full, FormFits}
 use Rattle.meaning.specs.Meaning.{Thing, labelled, unlabelled, Interp, SatFact, Bears, Reads, Satisfies, Satisfiable}
 use Rattle.meaning.specs.Calculus.{Branch, Fork, running, Run, start}
 use Rattle.meaning.specs.Model.{rep, Lawful, valued, coded, thing, on_term, tuples, row_is_variable, held, Named, Listed, Alike}
+use Rattle.meaning.proofs.Lookups.{past}
 use Rattle.meaning.proofs.RuleFits.{one_arity}
-use Rattle.meaning.proofs.Moved.{move, sat_moved}
+use Rattle.meaning.proofs.Moved.{move, all_moved}
 use Rattle.meaning.proofs.Sound.{run_neat, start_neat}
-
-past : {X : Type 0} (l : List X) (i : ℕ) → length l ≤ i → get_elem? l i ≡ none
-past [] i h = refl
-past (x ∷ l) zero h = absurd (omega arith)
-past (x ∷ l) (suc i) h = past l i (omega arith)
 
 maps : {A B C : Type 0} (g : B → C) (h : A → B) (l : List (List A)) → map (map g) (map (map h) l) ≡ map (map (λ x. g (h x))) l
 maps g h [] = refl
@@ -34,10 +30,7 @@ module _ (rs : List Row) (n t : ℕ) (v : List ℕ) where
   on_fits : (g : Bool) (f : Form) (us : List (List ℕ)) → FormFits rs n f → (Mem v us → Arity rs t (length v)) → Mem v (on_term t g f us) → Arity rs t (length v)
   on_fits true (member u s) us h below m = at_test s u us h.0 below (eqb s t) (λ e. eqb→eq s t (subst T (sym e) tt)) m
   on_fits false (member u s) us h below m = below m
-  on_fits true (equal a b) us h below m = below m
-  on_fits false (equal a b) us h below m = below m
-  on_fits true (same s r) us h below m = below m
-  on_fits false (same s r) us h below m = below m
+  on_fits _ _ us h below m = below m
 
   tuple_fits : (cs : List Fact) → AllByRecursion (λ (c : Fact). FormFits rs n c.form) cs → Mem v (tuples cs t) → Arity rs t (length v)
   tuple_fits [] h m = absurd (Memᴰ.not-nil m)
@@ -56,18 +49,7 @@ module _ (K : ℕ → Option ℕ) (S : Sheet) where
 
 module _ (K : ℕ → Option ℕ) (S : Sheet) (n : ℕ) (rs : List ℕ) (lawful : Lawful K S n rs) where
   idem : (e : ℕ) → rep rs (rep rs e) ≡ rep rs e
-  idem e = go (dec_lt e n) (dec_lt 0 n)
-    where
-      go : Dec (e < n) → Dec (0 < n) → rep rs (rep rs e) ≡ rep rs e
-      go (yes h) d = lawful.fixed e h
-      go (no h) (yes z) =
-          let q : rep rs e ≡ 0 = get_or_past rs e 0 (omega (arith, lawful.count)) in
-          let z' : rep rs 0 ≡ 0 = omega (arith, lawful.low 0 z) in
-          ap (rep rs) q ∙ z' ∙ sym q
-      go (no h) (no z) =
-          let q : rep rs e ≡ 0 = get_or_past rs e 0 (omega (arith, lawful.count)) in
-          let z' : rep rs 0 ≡ 0 = get_or_past rs 0 0 (omega (arith, lawful.count)) in
-          ap (rep rs) q ∙ z' ∙ sym q
+  idem e = grind (arith, lawful.fixed e, lawful.low 0, lawful.count, get_or_past rs e 0, get_or_past rs 0 0)
 
   -- the names that represent themselves
   Rep : Type 0
@@ -102,20 +84,13 @@ module _ (K : ℕ → Option ℕ) (S : Sheet) (n : ℕ) (rs : List ℕ) (lawful 
       go (yes lp) (yes lq) =
           let a = lawful.label p lp in
           let b = lawful.label q lq in
-          let f : labelled a.0 ≡ labelled b.0 = sym (thing_label K S p a.0 a.1) ∙ e ∙ thing_label K S q b.0 b.1 in
-          let v : b.0 ≡ a.0 = cc in
+          let v : b.0 ≡ a.0 = cc (thing_label K S p a.0 a.1, thing_label K S q b.0 b.1) in
           order a.0 lp lq a.1 (subst (Bears K S q) v b.1) (dec_lt p q) (dec_lt q p)
       go (yes lp) (no lq) =
-          let a = lawful.label p lp in
-          let f : labelled a.0 ≡ unlabelled q = sym (thing_label K S p a.0 a.1) ∙ e ∙ thing_free K S q (omega arith) in
-          absurd (let z : ◌≡◌ {A = ℕ} 0 1 = cc in omega arith)
+          let a = lawful.label p lp in cc (thing_label K S p a.0 a.1, thing_free K S q (omega arith))
       go (no lp) (yes lq) =
-          let b = lawful.label q lq in
-          let f : unlabelled p ≡ labelled b.0 = sym (thing_free K S p (omega arith)) ∙ e ∙ thing_label K S q b.0 b.1 in
-          absurd (let z : ◌≡◌ {A = ℕ} 0 1 = cc in omega arith)
-      go (no lp) (no lq) =
-          let f : unlabelled p ≡ unlabelled q = sym (thing_free K S p (omega arith)) ∙ e ∙ thing_free K S q (omega arith) in
-          cc
+          let b = lawful.label q lq in cc (thing_free K S p (omega arith), thing_label K S q b.0 b.1)
+      go (no lp) (no lq) = cc (thing_free K S p (omega arith), thing_free K S q (omega arith))
 
   means_inj : (a b : Rep) → means a ≡ means b → a ≡ b
   unfolding Rep means number
@@ -135,21 +110,19 @@ module _ (K : ℕ → Option ℕ) (S : Sheet) (n : ℕ) (rs : List ℕ) (lawful 
     by_thing = λ i. record { name = λ e. thing K S (rep rs e); rel = λ t. (maps means self (held S cs t) ∙ sym (maps (thing K S) (rep rs) (held S cs t))) i }
 
     -- what holds by number holds by thing, and the other way round
-    crossed : (ks : List Fact) → AllByRecursion (SatFact S.rows (move number J) (move number J).name) ks → AllByRecursion (SatFact S.rows (move means J) (move means J).name) ks
+    by_number : AllByRecursion (SatFact S.rows J J.name) S.constraints ↔ Satisfies S (Named S rs cs)
     unfolding move
-    crossed [] h = tt
-    crossed (k ∷ ks) h = ((sat_moved means means_inj S.rows J J.name k).0 ((sat_moved number number_inj S.rows J J.name k).1 h.0), crossed ks h.1)
+    by_number = subst (λ (I : Interp ℕ). AllByRecursion (SatFact S.rows J J.name) S.constraints ↔ Satisfies S I) by_name (all_moved number number_inj S.rows J J.name S.constraints)
 
-    crossed_back : (ks : List Fact) → AllByRecursion (SatFact S.rows (move means J) (move means J).name) ks → AllByRecursion (SatFact S.rows (move number J) (move number J).name) ks
+    by_meaning : AllByRecursion (SatFact S.rows J J.name) S.constraints ↔ Satisfies S (Listed K S rs cs)
     unfolding move
-    crossed_back [] h = tt
-    crossed_back (k ∷ ks) h = ((sat_moved number number_inj S.rows J J.name k).0 ((sat_moved means means_inj S.rows J J.name k).1 h.0), crossed_back ks h.1)
+    by_meaning = subst (λ (I : Interp Thing). AllByRecursion (SatFact S.rows J J.name) S.constraints ↔ Satisfies S I) by_thing (all_moved means means_inj S.rows J J.name S.constraints)
 
     pub satisfied : Satisfies S (Named S rs cs) → Satisfies S (Listed K S rs cs)
-    satisfied h = subst (Satisfies S) by_thing (crossed S.constraints (subst (Satisfies S) (sym by_name) h))
+    satisfied h = by_meaning.0 (by_number.1 h)
 
     pub satisfied_by_name : Satisfies S (Listed K S rs cs) → Satisfies S (Named S rs cs)
-    satisfied_by_name h = subst (Satisfies S) by_name (crossed_back S.constraints (subst (Satisfies S) (sym by_thing) h))
+    satisfied_by_name h = by_number.0 (by_meaning.1 h)
 
     pub read : AllByRecursion (λ (c : Fact). FormFits S.rows n c.form) cs → Reads K S (Listed K S rs cs)
     read fits = record {

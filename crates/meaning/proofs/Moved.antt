@@ -1,30 +1,25 @@
 -- An injective map of the carrier carries the value of every term, `value_moved`, and the truth of every fact, `sat_moved`.
-use Rattle.std.proofs.Common.{◌≡◌, ℕ, Bool, true, false, ◌↔◌, List, [], ◌∷◌, ◌++◌, map, reverse, sym, refl, ap, ◌∙◌, subst, ap₂, inl, inr, ⊎_elim, arith}
+use Rattle.std.proofs.Common.{◌≡◌, ℕ, Bool, true, false, ◌↔◌, List, [], ◌∷◌, ◌++◌, map, reverse, sym, refl, ap, ◌∙◌, subst, ap₂, inl, inr, ⊎_elim}
 use mathlib.Core.List.Memᴰ
-use mathlib.Core.List.{map-map, reverse_aux, reverse-reverse, head-eq_of_cons-eq, tail-eq_of_cons-eq}
+use mathlib.Core.List.{map-map, reverse-reverse, head-eq_of_cons-eq, tail-eq_of_cons-eq}
+use Rattle.std.specs.List.{AllByRecursion}
 use Rattle.std.proofs.lemmas.List.{map-append}
 use Rattle.meaning.specs.Terms.{Row, Tm, Var, Empty, Single, Union, Inter, Diff, Transp, Prod, Join, Closure, term, Form, member, equal, same, Fact}
+use Rattle.meaning.proofs.Names.{map_reverse_aux}
 use Rattle.meaning.specs.Meaning.{Chain, one, more, Interp, In, Holds, Sat, SatFact}
 
 module _ {A B : Type 0} (f : A → B) where
   unfoldable pub move : Interp A → Interp B
   move J = record { name = λ e. f (J.name e); rel = λ n. map (map f) (J.rel n) }
 
-  map_rev : (u v : List A) → map f (reverse_aux u v) ≡ reverse_aux (map f u) (map f v)
-  map_rev [] v = refl
-  map_rev (x ∷ u) v = map_rev u (x ∷ v)
-
-  no_cons : {x : B} {l : List B} → [] ≡ x ∷ l → ⊥
-  no_cons e = let z : ◌≡◌ {A = ℕ} 0 1 = cc in omega arith
-
   -- how an image is cut
   pub cut_cons : (w : List A) (m : B) (b : List B) → m ∷ b ≡ map f w → (m' : A) × (b' : List A) × (w ≡ m' ∷ b') × (m ≡ f m') × (b ≡ map f b')
-  cut_cons [] m b e = absurd (no_cons (sym e))
+  cut_cons [] m b e = absurd cc
   cut_cons (x ∷ w) m b e = (x, w, refl, head-eq_of_cons-eq e, tail-eq_of_cons-eq e)
 
   pub cut-append : (a c : List B) (w : List A) → a ++ c ≡ map f w → (a' : List A) × (c' : List A) × (w ≡ a' ++ c') × (a ≡ map f a') × (c ≡ map f c')
   cut-append [] c w e = ([], w, refl, refl, e)
-  cut-append (x ∷ a) c [] e = absurd (no_cons (sym e))
+  cut-append (x ∷ a) c [] e = absurd cc
   cut-append (x ∷ a) c (y ∷ w) e =
       let r = cut-append a c w (tail-eq_of_cons-eq e) in
       (y ∷ r.0, r.1, ap (λ (l : List A). y ∷ l) r.2, ap₂ ◌∷◌ (head-eq_of_cons-eq e) r.3, r.4)
@@ -32,8 +27,8 @@ module _ {A B : Type 0} (f : A → B) where
   module _ (inj : (x y : A) → f x ≡ f y → x ≡ y) where
     map_inj : (u v : List A) → map f u ≡ map f v → u ≡ v
     map_inj [] [] e = refl
-    map_inj [] (y ∷ v) e = absurd (no_cons e)
-    map_inj (x ∷ u) [] e = absurd (no_cons (sym e))
+    map_inj [] (y ∷ v) e = absurd cc
+    map_inj (x ∷ u) [] e = absurd cc
     map_inj (x ∷ u) (y ∷ v) e = ap₂ ◌∷◌ (inj x y (head-eq_of_cons-eq e)) (map_inj u v (tail-eq_of_cons-eq e))
 
     -- a tuple of the image comes from one before it; and each goes over
@@ -93,7 +88,7 @@ module _ {A B : Type 0} (f : A → B) where
         (λ v p. let q = hs.0 v p.0 in (q.0, q.1, (q.2, λ k. p.1 (subst (In (move J) r) (sym q.1) (hr.1 q.0 k)))), λ u p. (hs.1 u p.0, λ k. p.1 (back J r hr.0 u k)))
     carried J (Transp s) =
         let hs = carried J s in
-        (λ v p. let q = hs.0 (reverse v) p in (reverse q.0, sym (reverse-reverse v) ∙ ap reverse q.1 ∙ sym (map_rev q.0 []), subst (In J s) (sym (reverse-reverse q.0)) q.2), λ u p. subst (In (move J) s) (map_rev u []) (hs.1 (reverse u) p))
+        (λ v p. let q = hs.0 (reverse v) p in (reverse q.0, sym (reverse-reverse v) ∙ ap reverse q.1 ∙ sym (map_reverse_aux f q.0 []), subst (In J s) (sym (reverse-reverse q.0)) q.2), λ u p. subst (In (move J) s) (map_reverse_aux f u []) (hs.1 (reverse u) p))
     carried J (Prod s r) =
         let hs = carried J s in
         let hr = carried J r in (
@@ -146,3 +141,10 @@ module _ {A B : Type 0} (f : A → B) where
         go : (g : Bool) → Sat rs J e g c.form ↔ Sat rs (move J) (λ i. f (e i)) g c.form
         go true = holds_moved rs J e c.form
         go false = let h = holds_moved rs J e c.form in (λ n p. n (h.1 p), λ n p. n (h.0 p))
+
+    pub all_moved : (rs : List Row) (J : Interp A) (e : ℕ → A) (cs : List Fact) → AllByRecursion (SatFact rs J e) cs ↔ AllByRecursion (SatFact rs (move J) (λ i. f (e i))) cs
+    all_moved rs J e [] = (λ h. h, λ h. h)
+    all_moved rs J e (c ∷ cs) =
+        let s = sat_moved rs J e c in
+        let all = all_moved rs J e cs in
+        (λ h. (s.0 h.0, all.0 h.1), λ h. (s.1 h.0, all.1 h.1))

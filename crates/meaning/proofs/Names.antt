@@ -1,8 +1,9 @@
 -- What the names of a branch mean may be changed at fresh names: facts on the others keep their truth, `sat_old`.
-use Rattle.std.proofs.Common.{◌≡◌, ℕ, zero, suc, ◌+◌, ◌-◌, ◌<◌, Bool, true, false, ◌↔◌, List, [], ◌∷◌, map, length, get_or, sym, refl, ap, ◌∙◌, subst, ap₂, arith}
+use Rattle.std.proofs.Common.{◌≡◌, ℕ, suc, ◌+◌, ◌-◌, ◌<◌, Bool, true, false, ◌↔◌, List, [], ◌∷◌, map, length, get_or, sym, refl, ap, ◌∙◌, subst, ap₂, arith}
 use mathlib.Core.List.{reverse_aux}
 use native.Mathlib.Decide.{dec_lt}
 use Rattle.std.specs.List.{AllByRecursion}
+use Rattle.std.proofs.lemmas.List.{get_or_default}
 use Rattle.meaning.specs.Terms.{Row, Form, member, equal, same, Fact}
 use Rattle.meaning.specs.Meaning.{Interp, Holds, Sat, SatFact, Value}
 use Rattle.meaning.specs.Calculus.{up_from}
@@ -15,6 +16,10 @@ FormBelow n (same s r) = Unit {0}
 
 abbrev pub Below : ℕ → Fact → Type 0
 Below n c = FormBelow n c.form
+
+pub map_reverse_aux : {A B : Type 0} (f : A → B) (u v : List A) → map f (reverse_aux u v) ≡ reverse_aux (map f u) (map f v)
+map_reverse_aux f [] v = refl
+map_reverse_aux f (x ∷ u) v = map_reverse_aux f u (x ∷ v)
 
 module _ {A : Type 0} where
   choose : {P : Type 0} → Dec P → A → A → A
@@ -38,14 +43,9 @@ module _ {A : Type 0} where
   unfolding put
   put_new e n u j d h = go (dec_lt (n + j) n)
     where
-      at : (v : List A) (i : ℕ) (c : A) → i < length v → get_or v i c ≡ get_or v i d
-      at [] i c l = absurd (omega arith)
-      at (x ∷ v) zero c l = refl
-      at (x ∷ v) (suc i) c l = at v i c (omega arith)
-
       go : (p : Dec (n + j < n)) → choose p (e (n + j)) (get_or u (n + j - n) (e (n + j))) ≡ get_or u j d
       go (yes p) = absurd (omega arith)
-      go (no k) = let q : n + j - n ≡ j = omega arith in ap (λ (i : ℕ). get_or u i (e (n + j))) q ∙ at u j (e (n + j)) h
+      go (no k) = let q : n + j - n ≡ j = omega arith in ap (λ (i : ℕ). get_or u i (e (n + j))) q ∙ get_or_default u j (e (n + j)) d h
 
   pub map_old : (f g : ℕ → A) (n : ℕ) → ((i : ℕ) → i < n → f i ≡ g i) → (v : List ℕ) → AllByRecursion (λ i. i < n) v → map f v ≡ map g v
   map_old f g n h [] b = refl
@@ -59,10 +59,6 @@ module _ {A : Type 0} where
 
   pub map_new : (e : ℕ → A) (n k : ℕ) (u : List A) → length u ≡ k → map (put e n u) (up_from n k) ≡ u
   map_new e n k u h = subst (λ (i : ℕ). map (put e n u) (up_from n i) ≡ u) h (map_run (put e n u) n u (put_new e n u))
-
-  pub map_reverse_aux : (f : ℕ → A) (u v : List ℕ) → map f (reverse_aux u v) ≡ reverse_aux (map f u) (map f v)
-  map_reverse_aux f [] v = refl
-  map_reverse_aux f (x ∷ u) v = map_reverse_aux f u (x ∷ v)
 
   -- a form says the same under two meanings that agree on its names
   pub holds_old : (rs : List Row) (I : Interp A) (f g : ℕ → A) (n : ℕ) → ((i : ℕ) → i < n → f i ≡ g i) → (c : Form) → FormBelow n c → Holds rs I f c ↔ Holds rs I g c

@@ -1,5 +1,6 @@
 -- Decimal numerals: their digits step by step, their lengths, and the value of a numeral is its number.
 use Rattle.std.proofs.Common.{◌≡◌, ℕ, zero, suc, ◌+◌, ◌-◌, ◌/◌, ◌%◌, ◌^◌, ◌<◌, ◌≤◌, eqb, List, [], ◌∷◌, ◌++◌, map, length, decimal, sym, refl, ap, ◌∙◌, arith}
+use Rattle.std.specs.List.{AllByRecursion}
 use Rattle.std.specs.Int.Digits.{digits_of, number_from_digits}
 use Rattle.std.proofs.lemmas.Int.Digits.{digits_of_step, length-digits_of-le, number_digits_of}
 use Rattle.std.proofs.lemmas.List.{map_push, length-map, length_push}
@@ -39,7 +40,7 @@ length-numeral-le k (suc n) p h = omega (arith, ap length (numeral_many (suc n) 
 
 map_back : (ds : List ℕ) → map (λ c. c - 48) (map (λ d. 48 + d) ds) ≡ ds
 map_back [] = refl
-map_back (d ∷ ds) = let e : (48 + d) - 48 ≡ d = omega arith in ap (λ z. z ∷ map (λ c. c - 48) (map (λ x. 48 + x) ds)) e ∙ ap (λ l. d ∷ l) (map_back ds)
+map_back (d ∷ ds) = let e : (48 + d) - 48 ≡ d = omega arith in cc (map_back ds)
 
 pub value_numeral : (n : ℕ) → value (numeral n) ≡ n
 unfolding numeral
@@ -48,12 +49,11 @@ value_numeral (suc n) = ap value (numeral_many (suc n) (omega arith)) ∙ ap (nu
 
 pub values_numerals : (ns : List ℕ) → map value (map numeral ns) ≡ ns
 values_numerals [] = refl
-values_numerals (n ∷ ns) = ap (λ z. z ∷ map value (map numeral ns)) (value_numeral n) ∙ ap (λ l. n ∷ l) (values_numerals ns)
+values_numerals (n ∷ ns) = cc (value_numeral n, values_numerals ns)
 
 -- each byte is above 32
 abbrev pub Solid : List ℕ → Type 0
-Solid [] = Unit {0}
-Solid (b ∷ bs) = (32 < b) × Solid bs
+Solid bs = AllByRecursion (λ b. 32 < b) bs
 
 solid_digits : (ds : List ℕ) → Solid (map (λ d. 48 + d) ds)
 solid_digits [] = tt

@@ -1,24 +1,19 @@
 -- Reading the text of any lines gives those lines back, and lines that are read have these bytes as their text.
 use Rattle.std.proofs.Common.{◌≡◌, ℕ, ◌≤◌, Bool, true, false, cond, eqb, List, [], ◌∷◌, ◌++◌, map, sym, refl, ap, ◌∙◌, append_assoc, append-nil, arith}
 use mathlib.Core.Option.{none, some}
-use Rattle.std.specs.List.{flat_map}
+use Rattle.std.specs.List.{AllByRecursion, flat_map}
+use Rattle.std.proofs.ByRecursion.{All-append, All-weaker}
 use Rattle.std.proofs.lemmas.Bool.{ne_eqb, eq-eqb, eqb-true, cond-false, cond-true, and_parts, and_from}
 use Rattle.meaning.specs.Text.{Line, closed, opened, name, inside, refused, numeral, word, numbers, spaced, body, text}
-use Rattle.meaning.specs.Reading.{same, on_first, parts, front, value, by_word, from_parts, guess, ReadsBack, ReadsOnly}
+use Rattle.meaning.specs.Reading.{same, on_first, parts, front, by_word, from_parts, guess, ReadsBack, ReadsOnly}
 use Rattle.meaning.proofs.Numerals.{Solid, solid_numeral, value_numeral, values_numerals}
 
 -- no byte is c
 abbrev pub Without : ℕ → List ℕ → Type 0
-Without c [] = Unit {0}
-Without c (b ∷ bs) = (b ≡ c → ⊥) × Without c bs
-
-without-append : (c : ℕ) (xs ys : List ℕ) → Without c xs → Without c ys → Without c (xs ++ ys)
-without-append c [] ys p q = q
-without-append c (x ∷ xs) ys p q = (p.0, without-append c xs ys p.1 q)
+Without c bs = AllByRecursion (λ b. b ≡ c → ⊥) bs
 
 solid_without : (c : ℕ) → c ≤ 32 → (xs : List ℕ) → Solid xs → Without c xs
-solid_without c h [] p = tt
-solid_without c h (x ∷ xs) p = ((λ e. let l = p.0 in omega arith), solid_without c h xs p.1)
+solid_without c h xs p = All-weaker _ _ (λ b l e. omega arith) xs p
 
 parts_last : (c : ℕ) (xs : List ℕ) → Without c xs → parts c xs ≡ xs ∷ []
 parts_last c [] p = refl
@@ -34,17 +29,14 @@ parts_body w (n ∷ ns) p = parts_first 32 w (body (numeral n) ns) (solid_withou
 
 without_spaced : (ns : List ℕ) → Without 10 (flat_map spaced ns)
 without_spaced [] = tt
-without_spaced (n ∷ ns) = ((λ e. omega arith), without-append 10 (numeral n) (flat_map spaced ns) (solid_without 10 (omega arith) (numeral n) (solid_numeral n)) (without_spaced ns))
+without_spaced (n ∷ ns) = ((λ e. omega arith), All-append _ (numeral n) (flat_map spaced ns) (solid_without 10 (omega arith) (numeral n) (solid_numeral n)) (without_spaced ns))
 
 solid_word : (l : Line) → Solid (word l)
-solid_word (closed g) = (omega arith, (omega arith, (omega arith, (omega arith, (omega arith, (omega arith, tt))))))
-solid_word (opened g) = (omega arith, (omega arith, (omega arith, (omega arith, tt))))
-solid_word (name e r) = (omega arith, (omega arith, (omega arith, (omega arith, tt))))
-solid_word (inside t us) = (omega arith, (omega arith, tt))
-solid_word (refused n r d) = (omega arith, (omega arith, (omega arith, (omega arith, (omega arith, (omega arith, (omega arith, tt)))))))
+solid_word (closed g) = search arith
+solid_word _ = search arith
 
 without_body : (l : Line) → Without 10 (body (word l) (numbers l))
-without_body l = without-append 10 (word l) (flat_map spaced (numbers l)) (solid_without 10 (omega arith) (word l) (solid_word l)) (without_spaced (numbers l))
+without_body l = All-append _ (word l) (flat_map spaced (numbers l)) (solid_without 10 (omega arith) (word l) (solid_word l)) (without_spaced (numbers l))
 
 parts_text : (ls : List Line) → parts 10 (text ls) ≡ map (λ l. body (word l) (numbers l)) ls ++ ([] ∷ [])
 parts_text [] = refl
@@ -59,18 +51,18 @@ front_push (q ∷ []) p = refl
 front_push (q ∷ r ∷ ps) p = ap (λ l. q ∷ l) (front_push (r ∷ ps) p)
 
 line_back : (l : Line) → by_word (word l) (map numeral (numbers l)) ≡ l
-line_back (closed g) = ap closed (value_numeral g)
-line_back (opened g) = ap opened (value_numeral g)
-line_back (name e r) = ap (λ x. name x (value (numeral r))) (value_numeral e) ∙ ap (name e) (value_numeral r)
-line_back (inside t us) = ap (λ x. inside x (map value (map numeral us))) (value_numeral t) ∙ ap (inside t) (values_numerals us)
-line_back (refused n r d) = ap (λ x. refused x (value (numeral r)) (value (numeral d))) (value_numeral n) ∙ ap (λ x. refused n x (value (numeral d))) (value_numeral r) ∙ ap (refused n r) (value_numeral d)
+line_back (closed g) = cc (value_numeral g)
+line_back (opened g) = cc (value_numeral g)
+line_back (name e r) = cc (value_numeral e, value_numeral r)
+line_back (inside t us) = cc (value_numeral t, values_numerals us)
+line_back (refused n r d) = cc (value_numeral n, value_numeral r, value_numeral d)
 
 body_back : (l : Line) → from_parts (parts 32 (body (word l) (numbers l))) ≡ l
 body_back l = ap from_parts (parts_body (word l) (numbers l) (solid_word l)) ∙ line_back l
 
 bodies_back : (ls : List Line) → map (λ p. from_parts (parts 32 p)) (map (λ l. body (word l) (numbers l)) ls) ≡ ls
 bodies_back [] = refl
-bodies_back (l ∷ ls) = ap (λ x. x ∷ map (λ p. from_parts (parts 32 p)) (map (λ l. body (word l) (numbers l)) ls)) (body_back l) ∙ ap (λ t. l ∷ t) (bodies_back ls)
+bodies_back (l ∷ ls) = cc (body_back l, bodies_back ls)
 
 guess_text : (ls : List Line) → guess (text ls) ≡ ls
 guess_text ls =
@@ -100,7 +92,7 @@ reads_back ls =
 
 only : (b : Bool) (ms ls : List Line) (bs : List ℕ) → same (text ms) bs ≡ b → cond b (some ms) none ≡ some ls → text ls ≡ bs
 only true ms ls bs e h = let m : ms ≡ ls = cc in ap text (sym m) ∙ same_true (text ms) bs e
-only false ms ls bs e h = let z : ◌≡◌ {A = ℕ} 0 1 = cc in absurd (omega arith)
+only false ms ls bs e h = cc
 
 pub reads_only : ReadsOnly
 reads_only bs ls h = only (same (text (guess bs)) bs) (guess bs) ls bs refl h

@@ -8,7 +8,8 @@ use Rattle.std.proofs.ByRecursion.{All-append, All-weaker}
 use Rattle.meaning.specs.Terms.{Op, single, Row, Form, member, equal, same, Fact, Sheet, names, RowIs, Is, Arity, Full, OpFits, FormFits}
 use Rattle.meaning.specs.Meaning.{Bears}
 use Rattle.meaning.specs.Calculus.{Alt, Rule, inter_up, inter_down, union_up, union_down, diff_up, diff_down, single_up, single_down, empty_unsat, set_diseq, eq_unsat_names, eq_unsat_terms, eq_unsat_both, transp_up, transp_down, join_up, join_down, prod_up, prod_down, tclos_up_one, tclos_up_two, tclos_down, sym_names, sym_terms, swap_name_member, swap_name_left, swap_name_right, swap_term_member, swap_term_left, swap_term_right, label_unsat, label_same, up_from, equalities}
-use Rattle.meaning.proofs.RuleSound.{all_parts, bound}
+use Rattle.meaning.proofs.Lookups.{below}
+use Rattle.meaning.proofs.RuleSound.{all_parts}
 
 pub form_up : (rs : List Row) (n m : ℕ) → n ≤ m → (f : Form) → FormFits rs n f → FormFits rs m f
 form_up rs n m l (member u t) b = (b.0, All-weaker (λ i. i < n) (λ i. i < m) (λ i h. omega arith) u b.1)
@@ -19,7 +20,7 @@ run_low : (n k m : ℕ) → n + k ≤ m → AllByRecursion (λ i. i < m) (up_fro
 run_low n zero m h = tt
 run_low n (suc k) m h = (omega arith, run_low (n + 1) k m (omega arith))
 
-run_length : (n k : ℕ) → length (up_from n k) ≡ k
+pub run_length : (n k : ℕ) → length (up_from n k) ≡ k
 run_length n zero = refl
 run_length n (suc k) = ap suc (run_length (n + 1) k)
 
@@ -62,7 +63,7 @@ module _ (K : ℕ → Option ℕ) (S : Sheet) (full : Full S) where
   single_low {t} {v} n is l = All-weaker (λ i. i < names S) (λ i. i < n) (λ i h. omega arith) v (fit is).1
 
   label_low : {a x : ℕ} (n : ℕ) → Bears K S a x → names S ≤ n → a < n
-  label_low {a} n b l = let h = bound S.codes a b.0 b.1 in omega arith
+  label_low {a} n b l = let h = below S.codes a b.0 b.1 in omega arith
 
   pub rule_fits : {n r t w : ℕ} {ps : List Fact} {alts : List Alt} → Rule K S n r t w ps alts → names S ≤ n → AllByRecursion (Fits n) ps → AltsFit n alts
   rule_fits {n} (inter_up {u = u} {s = s} {t = t} is) l b = ((up n (member u t) (to (both s (fit is).0.1 b.0.0) (of is), b.0.1), tt), tt)

@@ -1,14 +1,15 @@
 -- Each rule keeps an interpretation: where it satisfies the cited facts, some alternative is satisfied once the fresh names are given things: `rule_sound`.
-use Rattle.std.proofs.Common.{◌≡◌, ℕ, zero, suc, ◌+◌, ◌<◌, ◌≤◌, ◌⊎◌, List, [], ◌∷◌, ◌++◌, map, reverse, length, sym, refl, ap, ◌∙◌, subst, ap₂, inl, inr, ⊎_elim, arith, length-append}
+use Rattle.std.proofs.Common.{◌≡◌, ℕ, ◌+◌, ◌<◌, ◌≤◌, ◌⊎◌, List, [], ◌∷◌, ◌++◌, map, reverse, length, sym, refl, ap, ◌∙◌, subst, ap₂, inl, inr, ⊎_elim, arith, length-append}
 use mathlib.Core.List.{reverse-reverse, head-eq_of_cons-eq, tail-eq_of_cons-eq}
-use mathlib.Core.Option.{Option, some, some-injective}
+use mathlib.Core.Option.{Option}
 use native.Mathlib.Decide.{ℕ_discrete}
-use lib.ListN.{get_elem?, length-map}
+use lib.ListN.{length-map}
 use Rattle.std.specs.List.{AllByRecursion}
 use Rattle.std.proofs.lemmas.List.{map-append}
 use Rattle.meaning.specs.Terms.{Op, closure, node, term, member, equal, same, Fact, pos, neg, Sheet, names, Is, Arity, OpFits, Full}
 use Rattle.meaning.specs.Meaning.{Thing, Thing-discrete, labelled, Chain, one, Interp, In, Value, SatFact, Bears, Reads}
 use Rattle.meaning.specs.Calculus.{Alt, Rule, inter_up, inter_down, union_up, union_down, diff_up, diff_down, single_up, single_down, empty_unsat, set_diseq, eq_unsat_names, eq_unsat_terms, eq_unsat_both, transp_up, transp_down, join_up, join_down, prod_up, prod_down, tclos_up_one, tclos_up_two, tclos_down, sym_names, sym_terms, swap_name_member, swap_name_left, swap_name_right, swap_term_member, swap_term_left, swap_term_right, label_unsat, label_same, up_from, equalities}
+use Rattle.meaning.proofs.Lookups.{below}
 use Rattle.meaning.proofs.Lengths.{opened, shut, value_length}
 use Rattle.meaning.specs.Chains.{chain_append, Shape, pair, two, long, shape}
 use Rattle.meaning.specs.Finite.{in_dec, differ}
@@ -35,18 +36,11 @@ all_parts P [] b h = (tt, h)
 all_parts P (x ∷ a) b h = let r = all_parts P a b h.1 in ((h.0, r.0), r.1)
 
 pair_of : {A : Type 0} (l : List A) → length l ≡ 2 → (x : A) × (y : A) × (l ≡ x ∷ (y ∷ []))
-pair_of [] h = absurd (omega arith)
-pair_of (x ∷ []) h = absurd (omega arith)
 pair_of (x ∷ y ∷ []) h = (x, y, refl)
-pair_of (x ∷ y ∷ z ∷ l) h = absurd (omega arith)
+pair_of _ h = absurd (omega arith)
 
 put_first : {A : Type 0} (e : ℕ → A) (n : ℕ) (m : A) (u : List A) → put e n (m ∷ u) n ≡ m
 put_first e n m u = let z : n + 0 ≡ n = omega arith in ap (put e n (m ∷ u)) (sym z) ∙ put_new e n (m ∷ u) 0 m (omega arith)
-
-pub bound : {X : Type 0} (l : List X) (i : ℕ) (c : X) → get_elem? l i ≡ some c → i < length l
-bound [] i c h = absurd (let z : ◌≡◌ {A = ℕ} 0 1 = cc in omega arith)
-bound (x ∷ l) zero c h = omega arith
-bound (x ∷ l) (suc i) c h = let q = bound l i c h in omega arith
 
 module _ (K : ℕ → Option ℕ) (S : Sheet) (full : Full S) (I : Interp Thing) (reads : Reads K S I) where
   open' : {t : ℕ} {o : Op} → Is S.rows t o → (u : List Thing) → Value S.rows I t u → In I (node t o (term S.rows)) u
@@ -71,13 +65,11 @@ module _ (K : ℕ → Option ℕ) (S : Sheet) (full : Full S) (I : Interp Thing)
 
   label_of : {a x : ℕ} → Bears K S a x → I.name a ≡ labelled x
   label_of {a} {x} b =
-      let r = reads.labels a (bound S.codes a b.0 b.1) in
-      let c : some r.1.0 ≡ some b.0 = sym r.1.1 ∙ b.1 in
-      let k : K r.1.0 ≡ K b.0 = ap K (some-injective _ _ c) in
-      r.2 ∙ ap labelled (some-injective _ _ (sym r.1.2 ∙ k ∙ b.2))
+      let r = reads.labels a (below S.codes a b.0 b.1) in
+      cc (r.2, r.1.1, r.1.2, b.1, b.2)
 
   label_low : {a x : ℕ} → Bears K S a x → a < names S
-  label_low {a} b = let h = bound S.codes a b.0 b.1 in omega arith
+  label_low {a} b = let h = below S.codes a b.0 b.1 in omega arith
 
   equalities_hold : (e : ℕ → Thing) (u v : List ℕ) → map e u ≡ map e v → AllByRecursion (SatFact S.rows I e) (equalities u v)
   equalities_hold e [] v h = tt
@@ -89,9 +81,6 @@ module _ (K : ℕ → Option ℕ) (S : Sheet) (full : Full S) (I : Interp Thing)
 
   two_names : {x x' y y' : Thing} → x ≡ x' → y ≡ y' → x ∷ (y ∷ []) ≡ x' ∷ (y' ∷ [])
   two_names p q = λ i. p i ∷ (q i ∷ [])
-
-  R : ℕ → Thing → Thing → Type 0
-  R s x y = Value S.rows I s (x ∷ (y ∷ []))
 
   linked : (s t : ℕ) → Is S.rows t (closure s) → (x y : Thing) → Value S.rows I t (x ∷ (y ∷ [])) → Chain (λ p q. Value S.rows I s (p ∷ (q ∷ []))) x y
   linked s t is x y h =
@@ -209,7 +198,5 @@ module _ (K : ℕ → Option ℕ) (S : Sheet) (full : Full S) (I : Interp Thing)
       let q = p.1.0 in
       inl (e, λ i h. refl, (sat_iff S.rows I e e g (same t s) (same t r) (λ h u. (λ x. (q u).0 ((h u).0 x), λ x. (h u).1 ((q u).1 x)), λ h u. (λ x. (q u).1 ((h u).0 x), λ x. (h u).1 ((q u).0 x))) p.0, tt))
   rule_sound (label_unsat {a = a} {b = b'} {x = x} {y = y} hx hy ne) l e ex b p =
-      let q : labelled x ≡ labelled y = sym (label_of hx) ∙ sym (ex a (label_low hx)) ∙ p.0 ∙ ex b' (label_low hy) ∙ label_of hy in
-      let same_value : x ≡ y = cc in
-      ne same_value
-  rule_sound (label_same {a = a} {b = b'} hx hy) l e ex b p = inl (e, λ i h. refl, (ex a (label_low hx) ∙ label_of hx ∙ sym (label_of hy) ∙ sym (ex b' (label_low hy)), tt))
+      ne (cc (label_of hx, label_of hy, ex a (label_low hx), ex b' (label_low hy), p.0))
+  rule_sound (label_same {a = a} {b = b'} hx hy) l e ex b p = inl (e, λ i h. refl, (cc (label_of hx, label_of hy, ex a (label_low hx), ex b' (label_low hy)), tt))

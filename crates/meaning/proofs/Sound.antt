@@ -1,22 +1,17 @@
 -- No run from a satisfied sheet ends closed: `refutes`.
-use Rattle.std.proofs.Common.{◌≡◌, ℕ, zero, suc, ◌+◌, ◌<◌, ◌≤◌, ◌⊎◌, List, [], ◌∷◌, sym, refl, ◌∙◌, subst, inl, inr, ⊎_elim, arith}
-use mathlib.Core.Option.{Option, some, some-injective}
-use lib.ListN.{get_elem?}
+use Rattle.std.proofs.Common.{◌≡◌, ℕ, ◌+◌, ◌<◌, ◌≤◌, ◌⊎◌, List, [], ◌∷◌, sym, refl, ◌∙◌, inl, inr, ⊎_elim, arith}
+use mathlib.Core.Option.{Option}
 use Rattle.std.specs.List.{AllByRecursion}
 use Rattle.std.proofs.ByRecursion.{All-append, All-weaker}
 use Rattle.meaning.specs.Terms.{Row, Form, member, equal, same, Fact, Sheet, names, Full, FormFits}
 use Rattle.meaning.specs.Meaning.{Thing, Interp, SatFact, Reads, Satisfiable}
 use Rattle.meaning.specs.Calculus.{Alt, Cites, cites_none, cites_one, cites_two, Branch, extend, Fork, State, running, closed, enter, apply, Step, step, Run, done, then, start}
+use Rattle.meaning.proofs.Lookups.{all_at}
 use Rattle.meaning.proofs.Names.{Below, sat_old}
 use Rattle.meaning.proofs.RuleSound.{Some, rule_sound}
 use Rattle.meaning.proofs.RuleFits.{Fits, form_up, rule_fits}
 
--- what all facts of a branch have, each of them has, and so those that are cited
-pub all_at : {X : Type 0} (P : X → Type 0) (l : List X) (i : ℕ) (x : X) → AllByRecursion P l → get_elem? l i ≡ some x → P x
-all_at P [] i x h e = absurd (let z : ◌≡◌ {A = ℕ} 0 1 = cc in omega arith)
-all_at P (y ∷ l) zero x h e = subst P (some-injective _ _ e) h.0
-all_at P (y ∷ l) (suc i) x h e = all_at P l i x h.1 e
-
+-- what all facts of a branch have, those that are cited have
 pub all_cited : (P : Fact → Type 0) (l ps : List Fact) {r p q : ℕ} → AllByRecursion P l → Cites l r p q ps → AllByRecursion P ps
 all_cited P l _ h cites_none = tt
 all_cited P l _ h (cites_one {p = p} {f = f} a) = (all_at P l p f h a.is, tt)
