@@ -88,16 +88,7 @@ module _ (P : Plain) where
     fits_moved cs ds m m' f l e h =
         let en = front_cut cs ds f.facts m h.front e in
         let ep = nth_cut cs ds f.facts f.p h.cites_below en in
-        record {
-          front = l;
-          constraints_below = h.constraints_below;
-          cites_below = h.cites_below;
-          few_names = h.few_names;
-          left = h.left;
-          names_fit = rw ep at h.names_fit;
-          facts_fit = rw ep at h.facts_fit;
-          fair = rw (en, ep) at h.fair;
-        }
+        search (rw ep at h.names_fit, rw ep at h.facts_fit, rw (en, ep) at h.fair)
 
     pub stack_moved :
         (cs ds : List FactRow) (m m' : ℕ) (fs : List ForkRow) → m ≤ m' → take m cs ≡ take m ds →

@@ -1,10 +1,10 @@
 -- What writes leave in the counted fronts of the stores: the facts of an alternative come after the front that
 -- they are written to (`put_front`, `put_below`), and the last of a front is split off it (`last_split`).
-use Rattle.std.proofs.Common.{◌≡◌, ℕ, suc, ◌+◌, ◌-◌, ◌<◌, ◌≤◌, List, [], ◌∷◌, ◌++◌, length, take, set, Some, None, sym, refl, ap, ◌∙◌, arith, length-set, length-take}
+use Rattle.std.proofs.Common.{◌≡◌, ℕ, ◌+◌, ◌-◌, ◌<◌, ◌≤◌, List, [], ◌∷◌, ◌++◌, length, take, set, Some, None, sym, refl, ap, ◌∙◌, arith, length-set, length-take}
 use Rattle.std.specs.List.{slice_get}
 use Rattle.std.proofs.lemmas.Option.{slice_get_within, gets}
 use Rattle.std.proofs.lemmas.Grind.{common_steps}
-use Rattle.std.proofs.lemmas.List.{take_more, append-nil, append_assoc, take_more_set, take-take, take-append-le}
+use Rattle.std.proofs.lemmas.List.{append-nil, take-append-le, take-take, take_more}
 use Rattle.calls.specs.RuleSteps.{put_all}
 
 -- ── fronts ─────────────────────────────────────────────────────────────────
@@ -45,11 +45,8 @@ module _ {X : Type 0} where
       take (i + length ys) (put_all xs i ys) ≡ take i xs ++ ys
   put_front xs i [] h = let e : i + 0 ≡ i = omega arith in ap (λ (k : ℕ). take k xs) e ∙ sym (append-nil (take i xs))
   put_front xs i (y ∷ ys) h =
-      let e : i + suc (length ys) ≡ (i + 1) + length ys = omega arith in
-      ap (λ (k : ℕ). take k (put_all (set xs i y) (i + 1) ys)) e
-      ∙ put_front (set xs i y) (i + 1) ys (omega (arith, length-set xs i y))
-      ∙ ap (λ (l : List X). l ++ ys) (take_more_set xs i y (omega arith))
-      ∙ append_assoc (take i xs) (y ∷ []) ys
+      let l : i + 1 + length ys ≤ length (set xs i y) = omega (arith, length-set xs i y) in
+      grind (arith, common_steps, put_front (set xs i y) (i + 1) ys l)
 
   -- the store stays as long
   pub put_length : (xs : List X) (i : ℕ) (ys : List X) → length (put_all xs i ys) ≡ length xs

@@ -263,16 +263,7 @@ module _
       let own = fits_moved P c F F m f.facts f (omega arith) refl fit in
       let fit' = fits_moved P c F after f.facts (f.facts + size_of next_of) f (omega arith) front_kept own in
       over G (onward f) refl (stack_moved P c F after f.facts f.facts G (omega arith) front_kept st)
-      (record {
-        front = fit'.front;
-        constraints_below = fit'.constraints_below;
-        cites_below = fit'.cites_below;
-        few_names = fit'.few_names;
-        left = ltb-true _ _ q;
-        names_fit = fit'.names_fit;
-        facts_fit = fit'.facts_fit;
-        fair = fit'.fair;
-      })
+      (search (ltb-true _ _ q))
   resumed_stacked false q =
       stack_moved P c F after f.facts (f.facts + size_of next_of) G (omega arith) front_kept st
 

@@ -37,18 +37,7 @@ module _ (letter : ℕ) (h : Held) (bs : List ℕ) (b : Enough h) where
   begun G e =
       let p = and_parts (leb (G.labels + G.free) 32) _ e in
       let q = and_parts (leb G.terms 64) (leb G.constraints 128) p.1 in
-      record {
-        enough = b;
-        few_names = leb-true _ _ p.0;
-        few_terms = leb-true _ _ q.0;
-        few_constraints = leb-true _ _ q.1;
-        labels_due = omega arith;
-        terms_due = omega arith;
-        constraints_due = omega arith;
-        labels_first = λ l. absurd (omega arith);
-        terms_first = λ l. absurd (omega arith);
-        passed = none_passed (plain_in (empty_sheet G) h) refl refl;
-      }
+      search (arith, leb-true _ _ p.0, leb-true _ _ q.0, leb-true _ _ q.1, none_passed (plain_in (empty_sheet G) h) refl refl)
 
   by_within :
       (G : HeaderRow) → header_in bs ≡ Some G → HeaderTold bs (Some G) → eqb G.letter letter ≡ true →

@@ -93,36 +93,17 @@ verdict_rests K S closed = refl
 module _ (K : ℕ → Option ℕ) where
   -- each way of granting keeps it, and so does a denial
   grants_kept : {st st' : Stage} {c : Call} → Grants K st c st' → Kept K st → Kept K st'
-  grants_kept (label_row {D = D} a b c d l k) f = record {
-    full = full_code D.sheet (code a b c d) f.full;
-    usual = f.usual;
-    codes_due = omega (arith, length-append D.sheet.codes (code a b c d ∷ []));
-    rows_due = f.rows_due;
-    constraints_due = f.constraints_due;
-    names_fit = f.names_fit;
-    terms_fit = f.terms_fit;
-    constraints_fit = f.constraints_fit;
-  }
-  grants_kept (term_row {D = D} r e l low high fits) f = record {
-    full = full_row D.sheet r f.full fits;
-    usual = All-append Usual D.sheet.rows (r ∷ []) f.usual ((low, high), tt);
-    codes_due = f.codes_due;
-    rows_due = omega (arith, length-append D.sheet.rows (r ∷ []));
-    constraints_due = f.constraints_due;
-    names_fit = f.names_fit;
-    terms_fit = f.terms_fit;
-    constraints_fit = f.constraints_fit;
-  }
-  grants_kept (constraint_row {D = D} x e e' l fits) f = record {
-    full = full_constraint D.sheet x f.full fits;
-    usual = f.usual;
-    codes_due = f.codes_due;
-    rows_due = f.rows_due;
-    constraints_due = omega (arith, length-append D.sheet.constraints (x ∷ []));
-    names_fit = f.names_fit;
-    terms_fit = f.terms_fit;
-    constraints_fit = f.constraints_fit;
-  }
+  grants_kept (label_row {D = D} a b c d l k) f =
+      search (arith, full_code D.sheet (code a b c d) f.full, length-append D.sheet.codes (code a b c d ∷ []))
+  grants_kept (term_row {D = D} r e l low high fits) f =
+      search (
+        arith,
+        full_row D.sheet r f.full fits,
+        All-append Usual D.sheet.rows (r ∷ []) f.usual ((low, high), tt),
+        length-append D.sheet.rows (r ∷ []),
+      )
+  grants_kept (constraint_row {D = D} x e e' l fits) f =
+      search (arith, full_constraint D.sheet x f.full fits, length-append D.sheet.constraints (x ∷ []))
   grants_kept (full_sheet {D = D} e e' e'') f = record {
     whole = record {
       full = f.full;
@@ -155,13 +136,7 @@ module _ (K : ℕ → Option ℕ) where
   grants_kept (verdict_there v) f = f
 
   counted_kept : (T : Trial) → Tried K T → Tried K (counted T)
-  counted_kept T f = record {
-    whole = f.whole;
-    granted_fit = f.granted_fit;
-    run = f.run;
-    within = f.within;
-    rests = f.rests;
-  }
+  counted_kept T f = search
 
   denied_kept : (st : Stage) (c : Call) → Kept K st → Kept K (denied_at st c)
   denied_kept (trying T) (step bs) f = counted_kept T f
@@ -176,16 +151,7 @@ module _ (K : ℕ → Option ℕ) where
   mix_kept (next g m) f = mix_kept m (goes_kept g f)
 
   pub made_kept : {letter : ℕ} {bs : List ℕ} {H : Header} → Made letter bs H → Kept K (filling (fresh H))
-  made_kept {letter} {bs} {H} m = record {
-    full = full_fresh H;
-    usual = tt;
-    codes_due = omega arith;
-    rows_due = omega arith;
-    constraints_due = omega arith;
-    names_fit = m.names_fit;
-    terms_fit = m.terms_fit;
-    constraints_fit = m.constraints_fit;
-  }
+  made_kept {letter} {bs} {H} m = search (arith, full_fresh H)
 
   pub reached_tried : {T : Trial} → Reaches K T → Tried K T
   reached_tried {T} r =
