@@ -28,7 +28,8 @@ pub fn large_enough(stores: &Stores) -> bool
 }
 
 impl Stores<'_> {
-    // Writes the code of label n.
+    // Writes the code of label n. (A writer for each store: each has its own elements, so that one for all would be
+    // no plainer.)
     pub fn put_label(&mut self, n: usize, code: u32)
         requires { n < length self.old.labels.now }
         ensures held { held self.new

@@ -1,5 +1,5 @@
-// Look-ups of what a step cites: facts, rows and labels, each in the counted front of its store.
-ghost use Rattle.std.specs.Prelude.{◌≡◌, take};
+// Look-ups of what a step cites: facts, rows and labels, each in the front of its store.
+ghost use Rattle.std.specs.Prelude.{◌≡◌};
 ghost use Rattle.std.specs.List.{slice_get};
 ghost use Rattle.rules.specs.Looked.{looked, row_at, label_at, compared, labels_for};
 ghost use Rattle.calls.specs.RuleSteps.{or_none};
@@ -7,7 +7,6 @@ ghost use Rattle.calls.specs.RuleSteps.{or_none};
 use labels::kind::Kind;
 use records::rows::{Fact, TermRow};
 use records::rule::Rule;
-use stores::trail::entry;
 
 // The row of term t, or no row past the last term.
 pub(crate) fn row(rows: &[TermRow], t: u8) -> TermRow
@@ -34,33 +33,38 @@ pub(crate) fn fact_or_none(branch: &[Fact], p: u16) -> Fact
     branch.get(usize::from(p)).copied().unwrap_or_default()
 }
 
-// Whether the labels of the names x and y are the same by the kind, where both have a value.
-fn compare<K: Kind>(kind: &K, labels: &[u32], count: u8, x: u8, y: u8) -> Option<bool>
-    ensures { result ≡ compared
-        (label_at (K.Kind.meaning kind.now) (take count labels.now) x)
-        (label_at (K.Kind.meaning kind.now) (take count labels.now) y) }
+// The code of the label of a name, if it has one.
+fn code_of(codes: &[u32], name: u8) -> Option<u32>
+    ensures { result ≡ slice_get codes.now name }
 {
-    let first = entry(labels, count as usize, x as usize)?;
-    let second = entry(labels, count as usize, y as usize)?;
+    codes.get(usize::from(name)).copied()
+}
+
+// Whether the labels of the names x and y are the same by the kind, where both have a value.
+fn compare<K: Kind>(kind: &K, codes: &[u32], x: u8, y: u8) -> Option<bool>
+    ensures { result ≡ compared
+        (label_at (K.Kind.meaning kind.now) codes.now x)
+        (label_at (K.Kind.meaning kind.now) codes.now y) }
+{
+    let first = code_of(codes, x)?;
+    let second = code_of(codes, y)?;
     kind.same(first, second).ok()
 }
 
 // The labels in question: those of a fact's two names, or those of the names t and w.
 pub(crate) fn label_pair<K: Kind>(
     kind: &K,
-    labels: &[u32],
-    count: u8,
+    codes: &[u32],
     rule: Rule,
     f: Fact,
     t: u8,
     w: u8,
 ) -> Option<bool>
-    ensures { result ≡ labels_for (K.Kind.meaning kind.now) (take count labels.now)
-        rule f t w }
+    ensures { result ≡ labels_for (K.Kind.meaning kind.now) codes.now rule f t w }
 {
     match rule {
-        Rule::LabelUnsat => compare(kind, labels, count, f.a, f.b),
-        Rule::LabelSame => compare(kind, labels, count, t, w),
+        Rule::LabelUnsat => compare(kind, codes, f.a, f.b),
+        Rule::LabelSame => compare(kind, codes, t, w),
         _ => None,
     }
 }

@@ -38,7 +38,8 @@ pub(crate) fn grow_by(m: u16, n: u8, alt: Alt) -> Grown
     }
 }
 
-// More than 64 names on n names and the alternative's fresh ones.
+// More than 64 names on n names and the alternative's fresh ones. (It and `many_facts` add up other things: one
+// function for both would be no plainer.)
 pub(crate) fn many_names(n: u8, alt: Alt) -> bool
     requires { n ≤ 64 }
     ensures { result ≡ nat_lt 64 (n + alt.fresh) }
@@ -54,7 +55,8 @@ pub(crate) fn many_facts(m: u16, alt: Alt) -> bool
     m + size(alt) > 1024
 }
 
-// Some alternative would have more than 64 names; a rule with fewer than three repeats its last one.
+// Some alternative would have more than 64 names; a rule with fewer than three repeats its last one. (One line each
+// in `names_over` and `facts_over`: a limit and a count handed on would be no plainer.)
 pub(crate) fn names_over(rule: Rule, cited: Cited, n: u8) -> bool
     requires { n ≤ 64 }
     ensures { result ≡ names_over rule cited n }

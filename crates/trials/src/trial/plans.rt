@@ -34,7 +34,7 @@ impl Progress {
         let of_p = row(rows, f.term);
         let of_t = row(rows, x.t);
         let left = row(rows, of_p.a).arity;
-        let labels = label_pair(kind, stores.labels, self.sizes.labels, rule, f, x.t, x.w);
+        let labels = label_pair(kind, self.codes(stores.labels), rule, f, x.t, x.w);
         Cited {
             one: x.p == x.q,
             p: f,
