@@ -3,12 +3,12 @@ use labels::numbers::Numbers;
 use records::refusal::Refusal;
 use records::rows::{Fact, TermRow};
 use records::rule::Rule;
+use records::tuple::Tuple;
 use rules::outcome::Fork;
 use std::process::Abort;
 use std::test::Fail;
 use stores::lent::Stores;
 use stores::trail::entry;
-use records::tuple::Tuple;
 
 // A refusal's number and detail; zeros where there is none.
 fn shown(answer: Result<(), Refusal>) -> (u8, u64) {

@@ -1,6 +1,6 @@
 use records::rows::{Fact, TermRow};
-use rules::outcome::Fork;
 use records::tuple::Tuple;
+use rules::outcome::Fork;
 
 // The six stores, lent anew to every call.
 #[derive(Drop)]
