@@ -1,12 +1,18 @@
-//! Holds what ties the plain records to the calculus: the theorems stand in specs/, their proofs in proofs/.
+//! Holds what ties the plain records to the calculus: the theorems stand in specs/, their proofs in proofs/. And names
+//! by their representatives, as models and listings read them.
 #![tactic(auto)]
 
+ghost use Rattle.std.specs.Prelude.{◌≡◌};
+ghost use Rattle.records.specs.Tuples.{names};
+ghost use Rattle.meaning.specs.Model.{rep};
 ghost use Rattle.calls.specs.Bridge.{Bridged};
 ghost use Rattle.calls.specs.Granted.{Granted};
 ghost use Rattle.calls.specs.Fitting.{RoomTold};
 ghost use Rattle.calls.specs.ModelLaws.{ModelsGrantedExactly};
 ghost use Rattle.calls.specs.Standing.{CallsStand};
 ghost use Rattle.calls.specs.Vectors.{Examples};
+
+use records::tuple::Tuple;
 
 // A step's tests on plain records pass exactly where a rule of the calculus applies, with the same
 // alternatives; a step has one list of them; each leaves a branch whose facts fit.
@@ -52,4 +58,25 @@ pub fn examples_hold() -> u8
     ensures { Examples }
 {
     0
+}
+
+// The representative of a name; 0 for one that has none.
+pub fn representative(representatives: &[u8], name: u8) -> u8
+    ensures { result ≡ rep representatives.now name }
+{
+    representatives.get(usize::from(name)).copied().unwrap_or(0)
+}
+
+// The tuple of the representatives of names.
+pub fn represented(representatives: &[u8], tuple: Tuple) -> Tuple
+    ensures { result ≡ names (rep representatives.now tuple.a) (rep representatives.now tuple.b)
+        (rep representatives.now tuple.c) (rep representatives.now tuple.d) }
+{
+    let Tuple { a, b, c, d } = tuple;
+    Tuple::new(
+        representative(representatives, a),
+        representative(representatives, b),
+        representative(representatives, c),
+        representative(representatives, d),
+    )
 }

@@ -25,6 +25,7 @@ fn print_codes<K: Kind>(rt: &HostRuntime, kind: &K, codes: &[u32]) -> io::Result
 }
 
 fn run(rt: &HostRuntime) -> Result<(), Stop> {
+    // by a cast: From does not go from usize to u64
     let input = read_input(rt, MOST_INPUT as u64 + 1)?;
     check_input(input.len())?;
     let [letter, bytes @ ..] = input.as_slice() else {

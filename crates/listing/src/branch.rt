@@ -1,11 +1,11 @@
 // The lines of a branch: its names with their representatives, and the tuples that facts put into variables.
 ghost use Rattle.std.specs.Prelude.{◌≡◌, ◌≤◌, length};
-ghost use Rattle.meaning.specs.Model.{rep};
 ghost use Rattle.calls.specs.Listing.{fact_lines, open_lines};
 ghost use Rattle.listing.specs.Lines.{entry_lines, open_most};
 
 use super::line::{Entry, Line};
 use super::page::{Listing, Page};
+use calls::represented;
 use records::kinds::{Form, Operation};
 use records::rows::{Fact, TermRow};
 use records::tuple::Tuple;
@@ -23,16 +23,6 @@ pub struct Branch<'a> {
 }
 
 impl Branch<'_> {
-    // The representative of a name; 0 for one that has none.
-    fn representative(&self, name: u8) -> u8
-        ensures { result ≡ rep self.now.representatives.now name }
-    {
-        self.representatives
-            .get(usize::from(name))
-            .copied()
-            .unwrap_or(0)
-    }
-
     // What a fact puts into a variable, names by representative: nothing, unless it is a positive member of a
     // term that there is and that is a variable.
     fn entry(&self, fact: Fact) -> Option<Entry>
@@ -45,12 +35,7 @@ impl Branch<'_> {
         Some(Entry {
             term: fact.term,
             arity: row.arity,
-            tuple: Tuple {
-                a: self.representative(fact.a),
-                b: self.representative(fact.b),
-                c: self.representative(fact.c),
-                d: self.representative(fact.d),
-            },
+            tuple: represented(self.representatives, Tuple::from(fact)),
         })
     }
 }

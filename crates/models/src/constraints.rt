@@ -8,7 +8,7 @@ ghost use Rattle.models.specs.Constraints.{FormSays, Satisfied, IsHeld, IsFirstF
 
 use super::branch::Branch;
 use super::evaluation::Values;
-use super::lawful::representative;
+use calls::representative;
 use records::kinds::Form;
 use records::rows::Fact;
 use records::tuple::Tuple;

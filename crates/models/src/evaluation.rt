@@ -7,10 +7,11 @@ ghost use Rattle.models.specs.Tuples.{by_names};
 ghost use Rattle.models.specs.Rows.{operation_of, offered, RowHolds, value_of, Evaluated};
 
 use super::branch::Branch;
-use super::lawful::representative;
+use calls::represented;
 use records::kinds::{Form, Operation};
 use records::rows::{Fact, TermRow};
 use records::tuple::Tuple;
+use rules::row_at;
 use values::value::Value;
 
 // What terms are evaluated by: the representatives of the names, and the values of the terms before.
@@ -25,7 +26,7 @@ impl<'a> Values<'a> {
     pub(crate) fn of(self, j: u8) -> &'a [Tuple]
         ensures { result.now ≡ value_of (map (λ v. v.now) self.entry.terms.now) j }
     {
-        match self.terms.get(j as usize) {
+        match self.terms.get(usize::from(j)) {
             Some(value) => value,
             None => &[],
         }
@@ -35,20 +36,14 @@ impl<'a> Values<'a> {
     pub(crate) fn represented(self, names: Tuple) -> Tuple
         ensures { result ≡ by_names self.entry.representatives.now names.a names.b names.c names.d }
     {
-        let Tuple { a, b, c, d } = names;
-        Tuple::new(
-            representative(self.representatives, a),
-            representative(self.representatives, b),
-            representative(self.representatives, c),
-            representative(self.representatives, d),
-        )
+        represented(self.representatives, names)
     }
 
     // The tuple that a fact puts into variable k, if it puts one in.
     fn offered(self, k: usize, f: Fact) -> Option<Tuple>
         ensures { result ≡ offered self.entry.representatives.now k f }
     {
-        if f.affirms(Form::Member) && f.term as usize == k {
+        if f.affirms(Form::Member) && usize::from(f.term) == k {
             Some(self.represented(Tuple::from(f)))
         } else {
             None
@@ -71,7 +66,7 @@ impl<'a> Values<'a> {
             (length slots.old) result }
         ensures same { StandsIn slots.entry result }
     {
-        let p = arity(branch.terms, row.a);
+        let p = row_at(branch.terms, row.a).arity;
         let s = self.of(row.a);
         let r = self.of(row.b);
         let k = self.terms.len();
@@ -106,13 +101,6 @@ impl<'a> Values<'a> {
         let operation = Operation::try_from(row.op).unwrap_or(Operation::Closure);
         self.value_by(operation, slots, branch, row)
     }
-}
-
-// The arity of term j; 0 if there is none.
-fn arity(terms: &[TermRow], j: u8) -> u8
-    ensures { result ≡ (row_at terms.now j).arity }
-{
-    terms.get(j as usize).map_or(0, |row| row.arity)
 }
 
 // Evaluates all rows in the store, one behind the other, and puts their values into `values`; nothing where there

@@ -6,15 +6,9 @@ ghost use Rattle.calls.specs.Models.{same_value, same_label, none_lower, label_l
 ghost use Rattle.calls.specs.Models.{name_lawful, first_bad};
 ghost use Rattle.models.specs.Lawfulness.{labelled_by, taken_by, answered};
 
+use calls::representative;
 use labels::among::are_same;
 use labels::kind::Kind;
-
-// The representative of name e; 0 if it has none.
-pub(crate) fn representative(representatives: &[u8], e: u8) -> u8
-    ensures { result ≡ rep representatives.now e }
-{
-    representatives.get(usize::from(e)).copied().unwrap_or(0)
-}
 
 // What lawfulness is judged by: the kind, the codes of the labelled names, and each name's representative.
 #[derive(Drop)]

@@ -19,7 +19,7 @@ use lawful::first_unlawful;
 use records::refusal::Refusal;
 use records::tuple::Tuple;
 
-// What stands for the values of terms that are not evaluated yet.
+// What stands for the values of terms that are not evaluated yet: an array, since there is no heap.
 fn no_values<'a>() -> [&'a [Tuple]; 64] {
     [&[]; 64]
 }

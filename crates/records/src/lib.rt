@@ -129,7 +129,7 @@ impl Refusal {
         }
     }
 
-    // What the refusal names: 0 where it names nothing.
+    // What the refusal names: 0 where it names nothing. (By name, as `number`: From for both would not tell them apart.)
     pub fn detail(self) -> u64
         ensures { result ≡ detail_of self }
     {
@@ -144,6 +144,7 @@ impl Refusal {
             Refusal::NoRoom(room) => u64::from(room.detail()),
             Refusal::Unlawful(name) => u64::from(name),
             Refusal::ConstraintFalse(constraint) => u64::from(constraint),
+            // by a cast: From does not go from usize to u64
             Refusal::BufferShort(needed) => needed as u64,
             Refusal::OldHeld(code) => u64::from(code),
             _ => 0,

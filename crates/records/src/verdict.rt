@@ -1,4 +1,5 @@
-// Where a trial stands.
+// Where a trial stands. (Three states with a name each, of which contracts speak and which one match takes up in place;
+// an Option would leave the first without one.)
 #[derive(Clone, Copy, Debug, PartialEq, Eq)]
 pub enum Verdict {
     // Steps may still come.

@@ -5,7 +5,7 @@
 ghost use Rattle.std.specs.Prelude.{◌≡◌, ◌≤◌};
 ghost use Rattle.rules.specs.Rules.{line_met, self_unequal, negated_by, has_place, has_side};
 ghost use Rattle.rules.specs.Rules.{alternative_of, alternatives_of};
-ghost use Rattle.rules.specs.Looked.{uses, untouched, zeros_kept};
+ghost use Rattle.rules.specs.Looked.{uses, untouched, zeros_kept, row_at};
 
 pub mod cited;
 mod fact;
@@ -14,7 +14,7 @@ pub mod outcome;
 use cited::{Alt, Cited, Facts, Uses};
 use fact::{eq_fact, equal_facts, equalities_of, in_fact, no_alt, one_of, same_fact, two_of};
 use records::kinds::{Form, Operation};
-use records::rows::{Fact, Step};
+use records::rows::{Fact, Step, TermRow};
 use records::rule::Rule;
 use records::tuple::Tuple;
 
@@ -51,7 +51,14 @@ pub fn uses(rule: Rule) -> Uses
     }
 }
 
-// A field that its rule does not mention is zero.
+// The row of term t, or no row past the last term.
+pub fn row_at(rows: &[TermRow], t: u8) -> TermRow
+    ensures { result ≡ row_at rows.now t }
+{
+    rows.get(usize::from(t)).copied().unwrap_or_default()
+}
+
+// A field that its rule does not mention is zero. (A yes or no for each field of a rule: `Uses` has it as a flag.)
 fn field(used: bool, x: u16) -> bool
     ensures { result ≡ untouched used x }
 {
@@ -177,7 +184,8 @@ pub fn alternatives(rule: Rule) -> u8
     }
 }
 
-// Alternative k of a rule on a branch with n names; past the last one it is the last again.
+// Alternative k of a rule on a branch with n names; past the last one it is the last again. (That n is at most 64
+// stands in some contracts here and above: a type for it would be taken apart at each sum.)
 pub fn alternative(rule: Rule, c: Cited, n: u8, k: u8) -> Alt
     requires { n ≤ 64 }
     ensures { result ≡ alternative_of rule c n k }

@@ -1,6 +1,5 @@
 // The tests of a term row and of a constraint's fact on plain numbers, and the arities that they ask for.
 ghost use Rattle.std.specs.Prelude.{◌≡◌};
-ghost use Rattle.rules.specs.Looked.{row_at};
 ghost use Rattle.records.specs.Kinds.{operation_number};
 ghost use Rattle.rules.specs.Rules.{all_of};
 ghost use Rattle.calls.specs.Tests.{row_tests, row_tested, fact_tested, place_ok};
@@ -86,11 +85,4 @@ pub(crate) fn fact_ok(m: u8, n: u8, k: u8, l: u8, f: Fact) -> bool
         }
         Err(_) => false,
     }
-}
-
-// The arity of term t of these rows, or 0 where there is none.
-pub(crate) fn arity_at(rows: &[TermRow], t: u8) -> u8
-    ensures { result ≡ (row_at rows.now t).arity }
-{
-    rows.get(usize::from(t)).map_or(0, |row| row.arity)
 }

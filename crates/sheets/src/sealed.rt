@@ -1,6 +1,7 @@
 use crate::sizes::Sizes;
 
-// A full sheet, from which a trial begins. It is moved, never copied and never let go.
+// A full sheet, from which a trial begins. It is moved, never copied and never let go. (So it is more than its sizes,
+// which anyone may copy.)
 pub struct Sealed {
     pub(crate) sizes: Sizes,
 }

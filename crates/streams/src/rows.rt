@@ -34,6 +34,7 @@ pub(crate) fn add_rows<'a, K: Kind>(
 {
     let due = sheet.due();
     let mut rest = stream;
+    // A count of rows, and not of places: a row is due also where the stream has ended.
     for i in 0..due {
         let (row, after) = cut_off(rest);
         if let Err(refusal) = sheet.add(kind, stores, row) {

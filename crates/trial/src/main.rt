@@ -15,6 +15,7 @@ fn judge_under<K: Drop>(_layer: Renames<K>) -> anyhow::Result<()> {
 }
 
 fn run(rt: &HostRuntime) -> Result<(), Stop> {
+    // by a cast: From does not go from usize to u64
     let input = read_input(rt, MOST_INPUT as u64 + 1)?;
     check_input(input.len())?;
     let renames = read_renames_file(rt)?;

@@ -1,21 +1,14 @@
-// Look-ups of what a step cites: facts, rows and labels, each in the front of its store.
+// Look-ups of what a step cites: facts and labels, each in the front of its store.
 ghost use Rattle.std.specs.Prelude.{◌≡◌};
 ghost use Rattle.std.specs.List.{slice_get};
-ghost use Rattle.rules.specs.Looked.{looked, row_at, label_at, compared, labels_for};
+ghost use Rattle.rules.specs.Looked.{looked, label_at, compared, labels_for};
 ghost use Rattle.calls.specs.RuleSteps.{or_none};
 
 use labels::kind::Kind;
-use records::rows::{Fact, TermRow};
+use records::rows::Fact;
 use records::rule::Rule;
 
-// The row of term t, or no row past the last term.
-pub(crate) fn row(rows: &[TermRow], t: u8) -> TermRow
-    ensures { result ≡ row_at rows.now t }
-{
-    rows.get(usize::from(t)).copied().unwrap_or_default()
-}
-
-// Fact number p, where the rule mentions it.
+// Fact number p, where the rule mentions it. (`used` is the rule's yes or no for the field.)
 pub(crate) fn look(used: bool, branch: &[Fact], p: u16) -> Option<Fact>
     ensures { result ≡ looked used branch.now p }
 {

@@ -8,13 +8,14 @@ ghost use Rattle.sheets.specs.Rows.{label_row, term_row, constraint_row};
 ghost use Rattle.sheets.specs.View.{filling_of, made};
 
 use super::Sheet;
-use crate::checks::{arity_at, fact_ok, row_ok};
+use crate::checks::{fact_ok, row_ok};
 use crate::sizes::Sizes;
 use labels::kind::Kind;
 use records::record::RowRecord;
 use records::refusal::Refusal;
 use records::rows::{ConstraintRow, Fact, Header, TermRow};
 use records::{read_header, read_row};
+use rules::row_at;
 use stores::large_enough;
 use stores::lent::Stores;
 use stores::trail::front;
@@ -136,8 +137,8 @@ impl Sheet {
         ensures { result ≡ term_passes (filling_of self.now) (held stores.now) row }
     {
         let rows = self.rows(stores);
-        let x = arity_at(rows, row.a);
-        let y = arity_at(rows, row.b);
+        let x = row_at(rows, row.a).arity;
+        let y = row_at(rows, row.b).arity;
         row_ok(self.names(), self.terms_in, x, y, row)
     }
 
@@ -172,8 +173,8 @@ impl Sheet {
     {
         let fact = Fact::from(row);
         let rows = self.rows(stores);
-        let k = arity_at(rows, fact.term);
-        let l = arity_at(rows, fact.a);
+        let k = row_at(rows, fact.term).arity;
+        let l = row_at(rows, fact.a).arity;
         row.sign <= 1 && fact_ok(self.terms_in, self.names(), k, l, fact)
     }
 

@@ -8,7 +8,7 @@ ghost use Rattle.stores.specs.View.{held};
 ghost use Rattle.trials.specs.View.{counts_of};
 ghost use Rattle.trials.specs.Steps.{Roomy};
 
-use crate::looks::{fact_or_none, row};
+use crate::looks::fact_or_none;
 use crate::progress::Progress;
 use crate::room::{facts_over, forks_left, grow_by, many_facts, many_names, move_on, names_over};
 use labels::kind::Kind;
@@ -17,7 +17,7 @@ use records::rows::{Fact, Step};
 use records::rule::Rule;
 use rules::cited::{Alt, Cited, Plan};
 use rules::outcome::{Fork, Outcome};
-use rules::{alternative, alternatives};
+use rules::{alternative, alternatives, row_at};
 use stores::lent::Stores;
 
 impl Progress {
@@ -68,9 +68,9 @@ impl Progress {
             ≡ cited_again (rows_of (counts_of self.now) (held stores.now)) f t }
     {
         let rows = self.rows(stores.terms);
-        let of_p = row(rows, f.term);
-        let of_t = row(rows, t);
-        let left = row(rows, of_p.a).arity;
+        let of_p = row_at(rows, f.term);
+        let of_t = row_at(rows, t);
+        let left = row_at(rows, of_p.a).arity;
         Cited {
             one: false,
             p: f,

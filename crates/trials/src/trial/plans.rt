@@ -5,14 +5,14 @@ ghost use Rattle.calls.specs.RuleSteps.{codes_of, rows_of, branch_facts};
 ghost use Rattle.stores.specs.View.{held};
 ghost use Rattle.trials.specs.View.{counts_of};
 
-use crate::looks::{label_pair, look, row};
+use crate::looks::{label_pair, look};
 use crate::progress::Progress;
 use labels::kind::Kind;
 use records::refusal::Refusal;
 use records::rows::{Fact, Step};
 use records::rule::Rule;
 use rules::cited::{Cited, Plan};
-use rules::{met, uses, zeros};
+use rules::{met, row_at, uses, zeros};
 use stores::lent::Stores;
 
 impl Progress {
@@ -31,9 +31,9 @@ impl Progress {
             (rows_of (counts_of self.now) (held stores.now)) rule x f g }
     {
         let rows = self.rows(stores.terms);
-        let of_p = row(rows, f.term);
-        let of_t = row(rows, x.t);
-        let left = row(rows, of_p.a).arity;
+        let of_p = row_at(rows, f.term);
+        let of_t = row_at(rows, x.t);
+        let left = row_at(rows, of_p.a).arity;
         let labels = label_pair(kind, self.codes(stores.labels), rule, f, x.t, x.w);
         Cited {
             one: x.p == x.q,

@@ -8,4 +8,4 @@ pub returns : goal.returns
 returns c =
     let h : is_listed c.args.self.now.terms.now c.args.fact ≡ true = search rules in
     let r : c.in_ok-row.row.now ≡ row_at c.args.self.now.terms.now c.args.fact.term = search rules in
-    simp (r, c.representative.ensures, c.representative-2.ensures, c.representative-3.ensures, c.representative-4.ensures) (fact_line c.args.self.now.representatives.now c.args.self.now.terms.now c.args.fact h)
+    simp (r, c.represented.ensures, c.from-2.ensures) (fact_line c.args.self.now.representatives.now c.args.self.now.terms.now c.args.fact h)
