@@ -12,10 +12,10 @@ use labels::kind::Kind;
 
 // What lawfulness is judged by: the kind, the codes of the labelled names, and each name's representative.
 #[derive(Drop)]
-struct Bearers<'a, K> {
-    kind: &'a K,
-    labels: &'a [u32],
-    representatives: &'a [u8],
+pub(crate) struct Bearers<'a, K> {
+    pub(crate) kind: &'a K,
+    pub(crate) labels: &'a [u32],
+    pub(crate) representatives: &'a [u8],
 }
 
 impl<K: Kind> Bearers<'_, K> {
@@ -87,22 +87,12 @@ impl<K: Kind> Bearers<'_, K> {
             && self.representative(r) == r
             && (self.labels.len() <= usize::from(e) || self.label_lawful(e))
     }
-}
 
-// The first name below `names` whose representative is not lawful.
-pub(crate) fn first_unlawful<K: Kind>(
-    kind: &K,
-    labels: &[u32],
-    representatives: &[u8],
-    names: u8,
-) -> Option<u8>
-    ensures { first_bad (name_lawful (K.Kind.meaning kind.now)
-        (labelled_by labels.now) representatives.now) names ≡ answered result }
-{
-    let bearers = Bearers {
-        kind,
-        labels,
-        representatives,
-    };
-    (0..names).find(|e| !bearers.name_lawful(*e))
+    // The first name below `names` whose representative is not lawful.
+    pub(crate) fn first_unlawful(&self, names: u8) -> Option<u8>
+        ensures { first_bad (name_lawful (K.meaning self.now.kind.now)
+            (labelled_by self.now.labels.now) self.now.representatives.now) names ≡ answered result }
+    {
+        (0..names).find(|e| !self.name_lawful(*e))
+    }
 }

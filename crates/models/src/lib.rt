@@ -15,7 +15,7 @@ mod tests;
 use branch::{Branch, Model};
 use evaluation::{Values, evaluate};
 use labels::kind::Kind;
-use lawful::first_unlawful;
+use lawful::Bearers;
 use records::refusal::Refusal;
 use records::tuple::Tuple;
 
@@ -62,7 +62,12 @@ pub fn check_model<K: Kind>(
     if model.count != branch.names {
         return Err(Refusal::Unlawful(255));
     }
-    if let Some(e) = first_unlawful(kind, branch.labels, model.representatives, branch.names) {
+    let bearers = Bearers {
+        kind,
+        labels: branch.labels,
+        representatives: model.representatives,
+    };
+    if let Some(e) = bearers.first_unlawful(branch.names) {
         return Err(Refusal::Unlawful(e));
     }
     judge_values(&mut tuples[0..4096], model.representatives, branch)

@@ -16,7 +16,8 @@ pub struct Header {
     pub constraints: u8,
 }
 
-// A term: its operation, its arity, and its operands.
+// A term: its operation, its arity, and its operands. (Plain numbers, as all records that are lent: `is` asks by
+// `Operation`.)
 #[derive(Clone, Copy, Debug, Default, PartialEq, Eq)]
 pub struct TermRow {
     pub op: u8,
@@ -48,7 +49,7 @@ pub struct ConstraintRow {
     pub d: u8,
 }
 
-// A fact, and so a constraint that was granted. Form 1: the names a, b, .. are in the term; form 2: a and b
+// A fact, and so a constraint that was granted: plain numbers, as all records that are lent. Form 1: the names a, b, .. are in the term; form 2: a and b
 // are equal; form 3: the term equals the term numbered a.
 #[derive(Clone, Copy, Debug, Default, PartialEq, Eq)]
 pub struct Fact {

@@ -3,7 +3,8 @@ ghost use Rattle.std.specs.Prelude.{◌≡◌, ℕ, ◌+◌, ◌<◌, ◌≤◌,
 ghost use Rattle.std.specs.List.{slice_get};
 ghost use Rattle.stores.specs.Kept.{kept};
 
-// The first `count` slots are kept; what the others hold does not matter.
+// The first `count` slots are kept; what the others hold does not matter. (Slots and a count, here and in the functions
+// below, since there is no heap: the slots are lent anew to every call, and the counts are the trial's.)
 #[derive(Drop)]
 pub struct Trail<'a, T> {
     pub slots: &'a mut [T],

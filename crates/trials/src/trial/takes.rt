@@ -10,6 +10,7 @@ ghost use Rattle.trials.specs.Steps.{other_answer};
 
 use super::Trial;
 use labels::kind::Kind;
+use models::branch::Model;
 use records::read_step;
 use records::record::StepRecord;
 use records::refusal::Refusal;
@@ -57,8 +58,11 @@ impl Trial {
         match read_step(bytes) {
             Some(StepRecord::Rule(x)) => self.progress.step_rule(kind, stores, x),
             Some(StepRecord::Model(count, representatives)) => {
-                self.progress
-                    .step_model(kind, stores, count, representatives)
+                let model = Model {
+                    count,
+                    representatives,
+                };
+                self.progress.step_model(kind, stores, &model)
             }
             None => self.deny_other(),
         }

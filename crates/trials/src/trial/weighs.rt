@@ -1,6 +1,6 @@
 // A step by a model: it is weighed by reading and by the tuple store alone, and then acted on.
 ghost use Rattle.std.specs.Prelude.{◌≡◌, ◌<◌, ◌≤◌, length, MatchResult};
-ghost use Rattle.records.specs.Reading.{model};
+ghost use Rattle.records.specs.Reading as reading;
 ghost use Rattle.models.specs.Checks.{Answers};
 ghost use Rattle.calls.specs.Stores.{Enough};
 ghost use Rattle.calls.specs.RuleSteps.{at_most, codes_of, rows_of, branch_facts};
@@ -25,8 +25,7 @@ impl Progress {
         kind: &K,
         stores: &Stores,
         tuples: &mut [Tuple],
-        count: u8,
-        representatives: &[u8],
+        model: &Model,
     ) -> Result<(), Refusal>
         requires room { 4096 ≤ length tuples.old }
         requires facts { 1024 ≤ length stores.now.facts.now }
@@ -35,7 +34,7 @@ impl Progress {
             (rows_of (counts_of self.now) (held stores.now))
             (branch_facts (counts_of self.now) (held stores.now))
             (at_most self.now.facts self.now.sizes.constraints) self.now.names
-            count representatives.now result }
+            model.now.count model.now.representatives.now result }
     {
         let constraints = self.facts.min(u16::from(self.sizes.constraints));
         let branch = Branch {
@@ -45,28 +44,18 @@ impl Progress {
             constraints: usize::from(constraints),
             names: self.names,
         };
-        let model = Model {
-            count,
-            representatives,
-        };
-        check_model(kind, &branch, tuples, &model)
+        check_model(kind, &branch, tuples, model)
     }
 
     // The answer to a model, on stores that are large enough; of these only the tuples are written.
-    fn weigh<K: Kind>(
-        &self,
-        kind: &K,
-        stores: &mut Stores,
-        count: u8,
-        representatives: &[u8],
-    ) -> Result<(), Refusal>
+    fn weigh<K: Kind>(&self, kind: &K, stores: &mut Stores, model: &Model) -> Result<(), Refusal>
         requires { Enough (held stores.old) }
         ensures answer { Whole (counts_of self.now) (held stores.old) → result ≡
             weighed_at self.now.verdict (K.Kind.meaning kind.now)
-            (counts_of self.now) (held stores.old) count
-            representatives.now }
+            (counts_of self.now) (held stores.old) model.now.count
+            model.now.representatives.now }
         ensures few { MatchResult result
-            (λ _. (length representatives.now ≤ 64) × (self.now.granted < 1000000))
+            (λ _. (length model.now.representatives.now ≤ 64) × (self.now.granted < 1000000))
             (λ _. Unit {0}) }
         ensures held { held stores.new ≡ held stores.old }
         ensures same { Same stores.old stores.new }
@@ -74,18 +63,18 @@ impl Progress {
         if self.verdict.reached() {
             return Err(Refusal::VerdictReached);
         }
-        if representatives.len() != usize::from(count) {
+        if model.representatives.len() != usize::from(model.count) {
             return Err(Refusal::NotStep);
         }
         if self.granted >= 1_000_000 {
             return Err(Refusal::RecordsSpent);
         }
-        if count != self.names {
+        if model.count != self.names {
             return Err(Refusal::Unlawful(255));
         }
         // Tried without: no loan of the tuples is covered beside loans of other fields behind one `&mut`.
         let tuples = std::mem::replace(&mut stores.tuples, &mut []);
-        let answer = self.check(kind, stores, tuples, count, representatives);
+        let answer = self.check(kind, stores, tuples, model);
         stores.tuples = tuples;
         answer
     }
@@ -96,8 +85,7 @@ impl Progress {
         &mut self,
         kind: &K,
         stores: &mut Stores,
-        count: u8,
-        representatives: &[u8],
+        model: &Model,
     ) -> Result<(), Refusal>
         requires { Enough (held stores.old) }
         ensures all { (Whole (counts_of self.old) (held stores.old) → record {
@@ -107,34 +95,34 @@ impl Progress {
         }
             ≡ stepped_at self.old.verdict (K.Kind.meaning kind.now)
             (counts_of self.old) (held stores.old)
-            (model count representatives.now)) }
+            (reading.model model.now.count model.now.representatives.now)) }
         ensures same { Same stores.old stores.new }
     {
-        let answer = self.weigh(kind, stores, count, representatives);
-        self.take_answer(stores, representatives, answer)
+        let answer = self.weigh(kind, stores, model);
+        self.take_answer(stores, model, answer)
     }
 
     // Takes up a granted model, or counts its refusal.
     fn take_answer(
         &mut self,
         stores: &mut Stores,
-        representatives: &[u8],
+        model: &Model,
         answer: Result<(), Refusal>,
     ) -> Result<(), Refusal>
         requires { (Enough (held stores.old)) × (MatchResult answer
-            (λ _. (length representatives.now ≤ 64) × (self.old.granted < 1000000)) (λ _. Unit {0})) }
+            (λ _. (length model.now.representatives.now ≤ 64) × (self.old.granted < 1000000)) (λ _. Unit {0})) }
         ensures all { record {
           result = result;
           trial = counts_of self.new;
           stores = held stores.new;
         }
             ≡ answered (counts_of self.old) (held stores.old)
-            representatives.now answer }
+            model.now.representatives.now answer }
         ensures same { Same stores.old stores.new }
     {
         match answer {
             Ok(()) => {
-                self.open(stores, representatives);
+                self.open(stores, model.representatives);
                 Ok(())
             }
             Err(refusal) => {

@@ -9,7 +9,7 @@ use Rattle.trials.proofs.progress.Progress.step_model.Goals as goal
 pub returns-clause-all : goal.returns-clause-all
 returns-clause-all g c = λ w.
     model_acted (g.K.Kind.meaning c.args.kind.now) (counts_of c.args.self.now) (held c.args.stores.now)
-    c.args.count c.args.representatives.now c.weigh-answer.result _ (c.weigh-answer.ensures.answer w)
+    c.args.model.now.count c.args.model.now.representatives.now c.weigh-answer.result _ (c.weigh-answer.ensures.answer w)
     (c.take_answer.ensures.all
-    ∙ ap (λ (h : Held). answered (counts_of c.args.self.now) h c.args.representatives.now c.weigh-answer.result)
+    ∙ ap (λ (h : Held). answered (counts_of c.args.self.now) h c.args.model.now.representatives.now c.weigh-answer.result)
     c.weigh-answer.ensures.held)
