@@ -5,7 +5,8 @@ ghost use Rattle.judging.specs.Lines.{refused_line};
 use records::refusal::Refusal;
 use std::fmt;
 
-// A refusal as it is printed: its number, the record that it came at, and its detail.
+// A refusal as it is printed: its number, the record that it came at, and its detail. (Printed by `Display`; the line of
+// listing's is put into lent memory, where the proof by `write!` didn't close.)
 #[derive(Clone, Copy)]
 pub struct RefusedLine {
     pub number: u8,

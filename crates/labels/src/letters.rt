@@ -6,7 +6,7 @@ use super::numbers::Numbers;
 use super::renames::Renames;
 use super::tags::Tags;
 
-// Numbers: N.
+// Numbers: N. (A function for each kind, whose clause pins its letter.)
 pub fn numbers_letter() -> u8
     ensures { result ≡ 78 }
 {

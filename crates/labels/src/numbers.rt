@@ -24,6 +24,7 @@ fn value(code: u32) -> Result<u32, NoValue>
 #[derive(Clone, Copy)]
 pub struct Numbers;
 
+// (The two answers are those of Tags, over another function: one body for both would need a trait of its own.)
 impl Kind for Numbers {
     const LETTER: u8 = b'N';
 

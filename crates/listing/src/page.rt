@@ -9,7 +9,8 @@ ghost use Rattle.listing.specs.Buffer.{Wrote, Listed};
 use itoa::Buffer;
 use records::refusal::Refusal;
 
-// A lent buffer, and the place of the next piece. A piece that does not fit is counted, and not written.
+// A lent buffer, and the place of the next piece. A piece that does not fit is counted, and not written. (Not
+// `fmt::Write`: `write!` may answer an error, of which its contract says nothing, and by it the proof didn't close.)
 #[derive(Drop)]
 pub(crate) struct Page<'a> {
     out: &'a mut [u8],

@@ -4,7 +4,8 @@ use super::{list_line, list_open};
 use records::refusal::Refusal;
 use records::rows::{Fact, TermRow};
 
-// The length that was written, or a million more than the length that is needed.
+// The length that was written, or a million more than the length that is needed. (By casts: From does not go from usize
+// to u64.)
 fn length_of(answer: Result<usize, Refusal>) -> u64 {
     match answer {
         Ok(n) => n as u64,

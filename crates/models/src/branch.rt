@@ -4,7 +4,7 @@ ghost use Rattle.std.specs.Prelude.{◌≤◌, length};
 use records::rows::{Fact, TermRow};
 
 // A branch of a sheet: the codes of its labels, its terms, its facts, of which the first `constraints` are the
-// sheet's constraints, and how many names it has.
+// sheet's constraints (one slice, as they lie in one store), and how many names it has.
 #[derive(Clone, Copy)]
 pub struct Branch<'a> {
     pub labels: &'a [u32],
@@ -17,7 +17,7 @@ pub struct Branch<'a> {
     pub ghost few: { constraints ≤ 256 },
 }
 
-// A model: how many names it speaks of, and the representative of each.
+// A model: how many names it says it speaks of, and the representatives that it brings, which may be more or fewer.
 #[derive(Clone, Copy)]
 pub struct Model<'a> {
     pub count: u8,

@@ -60,6 +60,7 @@ impl Values<'_> {
             constraints,
             ..
         } = *branch;
+        // an index over the constraint rows, the first false one answered: the form that is kept on purpose
         for i in 0..constraints {
             if !self.holds(facts[i]) {
                 return Some(i as u8);

@@ -15,7 +15,7 @@ const NO_TUPLE: Tuple = Tuple {
     d: 9,
 };
 
-// The number of a refusal, and its detail.
+// The number of a refusal, and its detail: what a user sees is what is tested.
 fn refusal(answer: Result<(), Refusal>) -> (u8, u64) {
     match answer {
         Ok(()) => (0, 0),

@@ -79,7 +79,7 @@ pub fn read_step(bytes: &[u8]) -> Option<StepRecord<'_>>
     }
 }
 
-// A label code from its four bytes, highest first.
+// A label code from its four bytes, highest first. (The library's conversion, under the name that clauses cite.)
 pub fn code_of(a: u8, b: u8, c: u8, d: u8) -> u32
     ensures { result ≡ code_from a b c d }
 {

@@ -16,8 +16,8 @@ pub struct Header {
     pub constraints: u8,
 }
 
-// A term: its operation, its arity, and its operands. (Plain numbers, as all records that are lent: `is` asks by
-// `Operation`.)
+// A term: its operation, its arity, and its operands. The operation is a number, as in the lent stores that other hands
+// may write; `is` asks by `Operation`.
 #[derive(Clone, Copy, Debug, Default, PartialEq, Eq)]
 pub struct TermRow {
     pub op: u8,
@@ -37,7 +37,7 @@ impl TermRow {
     }
 }
 
-// A constraint as its record has it, with the sign a byte.
+// A constraint as its record has it, before any test: the form and the sign are bytes.
 #[derive(Clone, Copy, Debug, Default, PartialEq, Eq)]
 pub struct ConstraintRow {
     pub form: u8,
@@ -49,8 +49,9 @@ pub struct ConstraintRow {
     pub d: u8,
 }
 
-// A fact, and so a constraint that was granted: plain numbers, as all records that are lent. Form 1: the names a, b, .. are in the term; form 2: a and b
-// are equal; form 3: the term equals the term numbered a.
+// A fact, and so a constraint that was granted. Form 1: the names a, b, .. are in the term; form 2: a and b
+// are equal; form 3: the term equals the term numbered a. The form is a number and the names are four fields, as in the
+// lent stores; `is` asks by `Form`.
 #[derive(Clone, Copy, Debug, Default, PartialEq, Eq)]
 pub struct Fact {
     pub form: u8,

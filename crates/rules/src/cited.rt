@@ -34,7 +34,8 @@ pub struct Plan {
     pub cited: Cited,
 }
 
-// The facts of an alternative, in their order: none to four of them.
+// The facts of an alternative, in their order: none to four of them. (An enum, since outcomes are copied as they are
+// matched, and there is no heap: the kit's list of fixed room is not Copy.)
 #[derive(Clone, Copy, Debug, PartialEq, Eq)]
 pub enum Facts {
     Empty,

@@ -49,7 +49,8 @@ pub(crate) fn same_fact(positive: bool, s: u8, r: u8) -> Fact
     }
 }
 
-// The same form of the same parts, whatever the signs: `==` compares the signs too.
+// The same form of the same parts, whatever the signs: `==` compares the signs too, and to make them equal first is no
+// plainer.
 pub(crate) fn equal_facts(f: Fact, g: Fact) -> bool
     ensures { result ≡ equal_facts f g }
 {

@@ -58,7 +58,7 @@ pub fn row_at(rows: &[TermRow], t: u8) -> TermRow
     rows.get(usize::from(t)).copied().unwrap_or_default()
 }
 
-// A field that its rule does not mention is zero. (A yes or no for each field of a rule: `Uses` has it as a flag.)
+// A field that its rule does not mention is zero. (A flag: an Option of the field would be made here from `Uses` and the step, and be no plainer.)
 fn field(used: bool, x: u16) -> bool
     ensures { result ≡ untouched used x }
 {

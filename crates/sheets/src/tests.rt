@@ -10,7 +10,7 @@ use std::test::Fail;
 use stores::lent::Stores;
 use stores::trail::entry;
 
-// A refusal's number and detail; zeros where there is none.
+// A refusal's number and detail, as a user sees them; zeros where there is none.
 fn shown(answer: Result<(), Refusal>) -> (u8, u64) {
     answer.err().map_or((0, 0), |e| (e.number(), e.detail()))
 }

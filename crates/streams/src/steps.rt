@@ -30,7 +30,7 @@ pub(crate) fn take_steps<K: Kind>(
 {
     let mut rest = left.rest;
     let mut record = left.record;
-    // No iterator cuts the records, since a row is due also where the stream has ended.
+    // By the same `cut_off` as the rows, for which no iterator serves: a row is due also where the stream has ended.
     while !rest.is_empty() {
         let (step, after) = cut_off(rest);
         if let Err(refusal) = trial.step(kind, stores, step) {

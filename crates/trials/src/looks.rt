@@ -8,7 +8,7 @@ use labels::kind::Kind;
 use records::rows::Fact;
 use records::rule::Rule;
 
-// Fact number p, where the rule mentions it. (`used` is the rule's yes or no for the field.)
+// Fact number p, where the rule mentions it. (`used` is the rule's flag for the field: an Option made from both would be no plainer.)
 pub(crate) fn look(used: bool, branch: &[Fact], p: u16) -> Option<Fact>
     ensures { result ≡ looked used branch.now p }
 {
@@ -27,7 +27,7 @@ pub(crate) fn fact_or_none(branch: &[Fact], p: u16) -> Fact
 }
 
 // The code of the label of a name, if it has one.
-fn code_of(codes: &[u32], name: u8) -> Option<u32>
+fn label_code(codes: &[u32], name: u8) -> Option<u32>
     ensures { result ≡ slice_get codes.now name }
 {
     codes.get(usize::from(name)).copied()
@@ -39,8 +39,8 @@ fn compare<K: Kind>(kind: &K, codes: &[u32], x: u8, y: u8) -> Option<bool>
         (label_at (K.Kind.meaning kind.now) codes.now x)
         (label_at (K.Kind.meaning kind.now) codes.now y) }
 {
-    let first = code_of(codes, x)?;
-    let second = code_of(codes, y)?;
+    let first = label_code(codes, x)?;
+    let second = label_code(codes, y)?;
     kind.same(first, second).ok()
 }
 

@@ -5,8 +5,7 @@ ghost use Rattle.rules.specs.Room.{names_over, facts_over, grown};
 ghost use Rattle.calls.specs.RuleSteps.{onward, forks_left};
 ghost use Rattle.trials.specs.Steps.{Fitting};
 
-use records::rule::Rule;
-use rules::cited::{Alt, Cited, Facts, Grown};
+use rules::cited::{Alt, Facts, Grown, Plan};
 use rules::outcome::Fork;
 use rules::{alternative, alternatives};
 
@@ -57,19 +56,19 @@ pub(crate) fn many_facts(m: u16, alt: Alt) -> bool
 
 // Some alternative would have more than 64 names; a rule with fewer than three repeats its last one. (One line each
 // in `names_over` and `facts_over`: a limit and a count handed on would be no plainer.)
-pub(crate) fn names_over(rule: Rule, cited: Cited, n: u8) -> bool
+pub(crate) fn names_over(plan: Plan, n: u8) -> bool
     requires { n ≤ 64 }
-    ensures { result ≡ names_over rule cited n }
+    ensures { result ≡ names_over plan.rule plan.cited n }
 {
-    (0..3).any(|k| many_names(n, alternative(rule, cited, n, k)))
+    (0..3).any(|k| many_names(n, alternative(plan.rule, plan.cited, n, k)))
 }
 
 // Some alternative would have more than 1,024 facts.
-pub(crate) fn facts_over(rule: Rule, cited: Cited, n: u8, m: u16) -> bool
+pub(crate) fn facts_over(plan: Plan, n: u8, m: u16) -> bool
     requires { (n ≤ 64) × (m ≤ 1024) }
-    ensures { result ≡ facts_over rule cited n m }
+    ensures { result ≡ facts_over plan.rule plan.cited n m }
 {
-    (0..3).any(|k| many_facts(m, alternative(rule, cited, n, k)))
+    (0..3).any(|k| many_facts(m, alternative(plan.rule, plan.cited, n, k)))
 }
 
 // The fork with its next alternative one further.

@@ -47,7 +47,8 @@ fn add_all(trail: &mut Trail<Fact>, alt: Alt)
     }
 }
 
-// Cuts the first `count` entries back to `at`, and adds one.
+// Cuts the first `count` entries back to `at`, and adds one. (A slice and its count, as everywhere where slots are lent;
+// and cut first, by the one rule for whatever is kept.)
 pub(crate) fn put_at<T: Copy>(slots: &mut [T], count: usize, at: usize, x: T)
     requires { (at ≤ count) × (at < length slots.old) }
     ensures { slots.new ≡ slice_set slots.old at x }

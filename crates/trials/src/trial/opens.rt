@@ -11,6 +11,8 @@ use records::verdict::Verdict;
 use stores::lent::Stores;
 
 impl Progress {
+    // (What `few` says of a granted model in this file's and the next's contracts no type carries: it would be made and
+    // taken apart at once.)
     // Takes up a granted model: its representatives are put into their store, and the verdict is OPEN.
     pub(crate) fn open(&mut self, stores: &mut Stores, representatives: &[u8])
         requires { (Enough (held stores.old)) × ((length representatives.now ≤ 64) × (self.old.granted < 1000000)) }

@@ -23,26 +23,26 @@ use stores::lent::Stores;
 impl Progress {
     // A rule with alternatives: the first is appended, and a fork is kept where there are more. Names, facts
     // and forks are tested in this order, names and facts over all alternatives.
-    fn grow(&self, x: Step, rule: Rule, cited: Cited) -> Result<Outcome, Refusal>
-        ensures is { result ≡ growing (counts_of self.now) x rule cited }
+    fn grow(&self, x: Step, plan: Plan) -> Result<Outcome, Refusal>
+        ensures is { result ≡ growing (counts_of self.now) x plan.rule plan.cited }
         ensures room { IfOk result (λ o. Roomy (counts_of self.now) o) }
     {
-        if names_over(rule, cited, self.names) {
+        if names_over(plan, self.names) {
             return Err(Refusal::NoRoom(Room::Names));
         }
-        if facts_over(rule, cited, self.names, self.facts) {
+        if facts_over(plan, self.names, self.facts) {
             return Err(Refusal::NoRoom(Room::Facts));
         }
         let grown = grow_by(
             self.facts,
             self.names,
-            alternative(rule, cited, self.names, 0),
+            alternative(plan.rule, plan.cited, self.names, 0),
         );
-        if alternatives(rule) == 1 {
+        if alternatives(plan.rule) == 1 {
             return Ok(Outcome::Adds(grown));
         }
         if self.forks < 64 {
-            Ok(Outcome::Forks(grown, self.fork(rule, x), self.forks + 1))
+            Ok(Outcome::Forks(grown, self.fork(plan.rule, x), self.forks + 1))
         } else {
             Err(Refusal::NoRoom(Room::Forks))
         }
@@ -62,7 +62,8 @@ impl Progress {
         }
     }
 
-    // What a fork's step cites, again.
+    // What a fork's step cites, again: the same rows as `cite` looks up, with the rest known. (Four lines in each; one
+    // function for both would take eight parameters.)
     fn cite_again(&self, stores: &Stores, f: Fact, t: u8) -> Cited
         ensures { result
             ≡ cited_again (rows_of (counts_of self.now) (held stores.now)) f t }
@@ -143,11 +144,11 @@ impl Progress {
             (held stores.now) x }
         ensures room { IfOk result (λ o. Roomy (counts_of self.now) o) }
     {
-        let Plan { rule, cited } = self.plan(kind, stores, x)?;
-        if alternatives(rule) == 0 {
+        let plan = self.plan(kind, stores, x)?;
+        if alternatives(plan.rule) == 0 {
             self.close(stores)
         } else {
-            self.grow(x, rule, cited)
+            self.grow(x, plan)
         }
     }
 }

@@ -7,7 +7,7 @@ use Rattle.trials.proofs.room.facts_over.Goals as goal
 
 pub returns : goal.returns
 returns c =
-    let over : ℕ → Bool = λ k. ltb 1024 (c.args.m + size_of (alternative_of c.args.rule c.args.cited c.args.n k)) in
+    let over : ℕ → Bool = λ k. ltb 1024 (c.args.m + size_of (alternative_of c.args.plan.rule c.args.plan.cited c.args.n k)) in
     any_of_three over c.any.result
     (any_from_yields_List over _ _ c.any.result c.any.ensures.ran (YieldsList-from_range 0 3 3 (cc) refl)
     (λ x b q k. search (rules, tests)))

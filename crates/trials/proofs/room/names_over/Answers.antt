@@ -7,7 +7,7 @@ use Rattle.trials.proofs.room.names_over.Goals as goal
 
 pub returns : goal.returns
 returns c =
-    let over : ℕ → Bool = λ k. ltb 64 (c.args.n + (alternative_of c.args.rule c.args.cited c.args.n k).fresh) in
+    let over : ℕ → Bool = λ k. ltb 64 (c.args.n + (alternative_of c.args.plan.rule c.args.plan.cited c.args.n k).fresh) in
     any_of_three over c.any.result
     (any_from_yields_List over _ _ c.any.result c.any.ensures.ran (YieldsList-from_range 0 3 3 (cc) refl)
     (λ x b q k. search (rules, tests)))
