@@ -45,6 +45,7 @@ impl Values<'_> {
         ensures { Decides result (Satisfied self.entry.representatives.now
             (IsHeld (map (λ v. v.now) self.entry.terms.now)) f) }
     {
+        // a constraint that was granted has one of the three forms; any other number is taken as the last
         let form = Form::try_from(f.form).unwrap_or(Form::EqualTerms);
         self.says(form, f) == f.positive
     }
@@ -63,6 +64,7 @@ impl Values<'_> {
         // an index over the constraint rows, the first false one answered: the form that is kept on purpose
         for i in 0..constraints {
             if !self.holds(facts[i]) {
+                // there are at most 256 constraints
                 return Some(i as u8);
             }
         }

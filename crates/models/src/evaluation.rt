@@ -98,6 +98,7 @@ impl<'a> Values<'a> {
             (length slots.old) result }
         ensures same { StandsIn slots.entry result }
     {
+        // a row that was granted has one of the ten operations; any other number is taken as the last
         let operation = Operation::try_from(row.op).unwrap_or(Operation::Closure);
         self.value_by(operation, slots, branch, row)
     }

@@ -18,6 +18,7 @@ pub(crate) struct Bearers<'a, K> {
     pub(crate) representatives: &'a [u8],
 }
 
+// (Three methods of a line each name what the others ask of the fields.)
 impl<K: Kind> Bearers<'_, K> {
     // The representative of name e; 0 if it has none.
     fn representative(&self, e: u8) -> u8

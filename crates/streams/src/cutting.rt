@@ -2,7 +2,8 @@
 ghost use Rattle.std.specs.Prelude.{◌≡◌, ◌≤◌, length};
 ghost use Rattle.streams.specs.Cutting.{step_size, said_size, record_size, first_record, after_first};
 
-// What is left of a stream, and the number of the record that comes next.
+// What is left of a stream, and the number of the record that comes next. (That it is at most 226 behind the rows stands
+// in three contracts: as a fact of the type it would be lost with the first step.)
 #[derive(Clone, Copy)]
 pub(crate) struct Left<'a> {
     pub(crate) rest: &'a [u8],

@@ -26,7 +26,7 @@ pub(crate) fn fact_or_none(branch: &[Fact], p: u16) -> Fact
     branch.get(usize::from(p)).copied().unwrap_or_default()
 }
 
-// The code of the label of a name, if it has one.
+// The code of the label of a name, if it has one. (A line, as its twin in models, which speaks by the other Option.)
 fn label_code(codes: &[u32], name: u8) -> Option<u32>
     ensures { result ≡ slice_get codes.now name }
 {

@@ -20,6 +20,8 @@ use rules::outcome::{Fork, Outcome};
 use rules::{alternative, alternatives, row_at};
 use stores::lent::Stores;
 
+// (Each outcome fits, by the clause `room`; it speaks of the counts beside the outcome, so no type of outcomes carries
+// it. And a fork that is resumed is there, by a plain number as all counts.)
 impl Progress {
     // A rule with alternatives: the first is appended, and a fork is kept where there are more. Names, facts
     // and forks are tested in this order, names and facts over all alternatives.

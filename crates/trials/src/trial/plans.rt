@@ -15,6 +15,8 @@ use rules::cited::{Cited, Plan};
 use rules::{met, row_at, uses, zeros};
 use stores::lent::Stores;
 
+// (The kind and the stores go together through the functions of a step: both are lent to the call, and the stores
+// differently to those that read and those that write, so a struct of both would be made anew at each.)
 impl Progress {
     // What the step cites, where its fields p and q number the facts f and g.
     fn cite<K: Kind>(
