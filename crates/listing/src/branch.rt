@@ -48,6 +48,7 @@ impl Listing for Branch<'_> {
     fn put(&self, page: &mut Page) {
         Line::Opened(self.granted).put(page);
         for (name, representative) in self.representatives.iter().enumerate() {
+            // there are at most 64 names
             Line::Name(name as u8, *representative).put(page);
         }
         for fact in self.facts {

@@ -32,7 +32,7 @@ impl<'a> Values<'a> {
         }
     }
 
-    // The tuple of the representatives of these names.
+    // The tuple of the representatives of these names. (A line, so that the others need not name the field.)
     pub(crate) fn represented(self, names: Tuple) -> Tuple
         ensures { result ≡ by_names self.entry.representatives.now names.a names.b names.c names.d }
     {
