@@ -1,6 +1,6 @@
 -- The first number below n that fails a test: there is none exactly where all pass (`none_bad`, `all_good`), and it
 -- is e exactly where e fails and all before it pass (`first_bad_least`, `first_bad_found`).
-use Rattle.std.proofs.Common.{◌≡◌, ℕ, zero, suc, ◌+◌, ◌<◌, Bool, true, false, ◌⊎◌, refl, ap, ◌∙◌, subst, inl, inr, ⊎_elim, arith}
+use Rattle.std.proofs.Common.{◌≡◌, ℕ, zero, suc, ◌+◌, ◌<◌, Bool, true, false, ◌↔◌, ◌⊎◌, refl, ap, ◌∙◌, subst, inl, inr, ⊎_elim, arith}
 use Rattle.std.proofs.lemmas.Bool.{and_from, and_parts, both_ways, cases_lt, false_from_ne_true}
 use borrow.Author.Count.{below_more}
 use mathlib.Core.Option.{Option, none, some}
@@ -39,6 +39,9 @@ module _ (f : ℕ → Bool) where
   true_each (suc n) h =
       and_from (each_below f n) (f n) (true_each n (λ k l. h k (omega arith))) (h n (omega arith))
 
+  pub each_exact : (n : ℕ) → (each_below f n ≡ true) ↔ ((k : ℕ) → k < n → f k ≡ true)
+  each_exact n = (λ h k l. each_true n k h l, true_each n)
+
   -- one turn of a loop in which all have passed so far
   pub each_more : (n : ℕ) → each_below f n ≡ true → f n ≡ true → each_below f (n + 1) ≡ true
   each_more n h t = true_each (n + 1) (more n (λ k. each_true n k h) t)
@@ -56,6 +59,9 @@ module _ (f : ℕ → Bool) where
   pub all_good : (n : ℕ) → ((k : ℕ) → k < n → f k ≡ true) → first_bad f n ≡ none
   all_good zero h = refl
   all_good (suc n) h = λ i. or_bad (all_good n (λ k l. h k (omega arith)) i) (h n (omega arith) i) n
+
+  pub first_bad_none : (n : ℕ) → (first_bad f n ≡ none) ↔ ((k : ℕ) → k < n → f k ≡ true)
+  first_bad_none n = (λ h k l. none_bad n k h l, all_good n)
 
   pub first_bad_least : (n e : ℕ) → first_bad f n ≡ some e → Least f n e
   first_bad_least zero e h = absurd cc

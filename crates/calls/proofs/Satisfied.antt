@@ -48,6 +48,12 @@ module _ (S : Sheet) (I : Interp ℕ) where
       ap (λ (b : Bool). cond b (first_false S I cs (k + 1)) (some k)) ((true_exact c).1 h.0)
       ∙ none_false cs (k + 1) h.1
 
+  pub all_by_place : (cs : List Fact) →
+      ((i : ℕ) (c : Fact) → get_elem? cs i ≡ some c → SatFact S.rows I I.name c) →
+      AllByRecursion (SatFact S.rows I I.name) cs
+  all_by_place [] h = tt
+  all_by_place (c ∷ cs) h = (h 0 c refl, all_by_place cs (λ i x q. h (suc i) x q))
+
   pub satisfies_exact : (first_false S I S.constraints 0 ≡ none) ↔ Satisfies S I
   satisfies_exact = (all_true S.constraints 0, none_false S.constraints 0)
 

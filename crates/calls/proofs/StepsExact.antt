@@ -1,7 +1,7 @@
 -- A step by a rule is granted exactly where the subject has a case for its bytes (`rule_step_exact`), no other
 -- bytes are (`other_step_exact`, `short_model_denied`), none is once there is a verdict (`decided_step_exact`),
 -- and a settle is granted exactly where there is one (`settle_exact`).
-use Rattle.std.proofs.Common.{◌≡◌, ℕ, ◌+◌, ◌*◌, ◌<◌, ◌≤◌, Bool, true, false, cond, leb, List, length, Ok, Err, Result, sym, refl, ap, subst, ⊎_elim, arith, leb-false, leb-true}
+use Rattle.std.proofs.Common.{◌≡◌, ℕ, ◌+◌, ◌*◌, ◌<◌, ◌≤◌, Bool, true, false, cond, eqb, leb, List, length, Ok, Err, Result, sym, refl, ap, subst, ⊎_elim, arith, ne_eqb, leb-false, leb-true}
 use mathlib.Core.Option.{Option}
 use Rattle.records.specs.declared.rows.Step.{Step}
 use Rattle.records.specs.declared.refusal.Refusal.{Refusal}
@@ -126,6 +126,20 @@ pub other_step_exact :
     step_in bs ≡ other →
     StepExact K t h bs (moved_on K t h other).trial (moved_on K t h other).stores (moved_on K t h other).result
 other_step_exact K t h bs w un e = other_exact K t h bs w un e
+
+pub short_model_exact :
+    (K : ℕ → Option ℕ) (t : Counts) (h : Held) (bs : List ℕ) (n : ℕ) (rs : List ℕ) → Whole t h →
+    t.verdict ≡ verdict.Undecided → step_in bs ≡ model n rs → (length rs ≡ n → ⊥) →
+    StepExact K t h bs (moved_on K t h (model n rs)).trial (moved_on K t h (model n rs)).stores
+    (moved_on K t h (model n rs)).result
+short_model_exact K t h bs n rs w un e short = go (eqb (length rs) n) (ne_eqb (length rs) n short) _
+  where
+    go :
+        (b : Bool) → b ≡ false → (s : Stepped) →
+        StepExact K t h bs (cond b s (left_denied t h NotStep)).trial (cond b s (left_denied t h NotStep)).stores
+        (cond b s (left_denied t h NotStep)).result
+    go true q s = absurd cc
+    go false q s = left K t h bs NotStep (short_model_denied K t h bs w un n rs e short)
 
 -- ── once there is a verdict ────────────────────────────────────────────────
 

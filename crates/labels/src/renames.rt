@@ -1,3 +1,5 @@
+ghost use Rattle.std.specs.Prelude.{◌≤◌, length};
+
 use super::pair::Pair;
 use arrayvec::ArrayVec;
 
@@ -8,4 +10,5 @@ pub mod work;
 pub struct Renames<K> {
     below: K,
     pairs: ArrayVec<Pair, 16>,
+    ghost few: { length pairs.items ≤ 16 },
 }

@@ -57,4 +57,12 @@ impl Listing for Branch<'_> {
             }
         }
     }
+
+    fn at_most(&self) -> usize {
+        if self.granted > 1_000_000 {
+            24326
+        } else {
+            24323
+        }
+    }
 }

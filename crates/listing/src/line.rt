@@ -68,4 +68,14 @@ impl Listing for Line {
             ),
         }
     }
+
+    fn at_most(&self) -> usize {
+        match self {
+            Line::Closed(_) => 18,
+            Line::Opened(_) => 16,
+            Line::Name(_, _) => 13,
+            Line::In(_) => 23,
+            Line::Refused(_, _, _) => 44,
+        }
+    }
 }

@@ -1,6 +1,7 @@
 // Text put piece after piece into a lent buffer, and what is put there.
-ghost use Rattle.std.specs.Prelude.{◌≡◌, ℕ, ◌^◌, ◌<◌, ◌≤◌, true, List, length, take, is_ok, IfOk, MatchResult};
+ghost use Rattle.std.specs.Prelude.{◌≡◌, ℕ, ◌^◌, ◌<◌, ◌≤◌, ◌⊎◌, true, List, length, take, is_ok, IfOk, MatchResult};
 ghost use Rattle.std.proofs.Math.Option.{some};
+ghost use Rattle.records.specs.declared.refusal.Refusal.TheVariants.{BufferShort};
 ghost use Rattle.meaning.specs.Text.{Line, numeral, row, text};
 ghost use Rattle.meaning.specs.Reading.{read_lines};
 ghost use Rattle.calls.specs.Listing.{written};
@@ -56,6 +57,9 @@ pub(crate) trait Listing {
 
     fn put(&self, page: &mut Page)
         ensures { Listed page.old (lines self.now) page.new (most self.now) };
+
+    fn at_most(&self) -> usize
+        ensures { result ≡ most self.now };
 }
 
 // How many bytes the lines have.
@@ -72,6 +76,25 @@ fn length_of<T: Listing>(listing: &T) -> usize
     page.at
 }
 
+// Whether the lines fit into so many bytes; else the length that they need. They are counted only where what always
+// suffices is not there: to count them takes about as long as to write them.
+fn check_room<T: Listing>(room: usize, listing: &T) -> Result<(), Refusal>
+    requires { T.most listing.now < 2 ^ 32 }
+    ensures { MatchResult result
+        (λ _. (T.most listing.now ≤ room) ⊎ (length (text (T.lines listing.now)) ≤ room))
+        (λ e. (room < T.most listing.now) × (room < length (text (T.lines listing.now)))
+        × (e ≡ BufferShort (length (text (T.lines listing.now))))) }
+{
+    if room >= listing.at_most() {
+        return Ok(());
+    }
+    let needed = length_of(listing);
+    if room < needed {
+        return Err(Refusal::BufferShort(needed));
+    }
+    Ok(())
+}
+
 // The lines at the front of a buffer, and their length, or the length that they need.
 pub(crate) fn fill<T: Listing>(out: &mut [u8], listing: &T) -> Result<usize, Refusal>
     requires { T.most listing.now < 2 ^ 32 }
@@ -82,10 +105,7 @@ pub(crate) fn fill<T: Listing>(out: &mut [u8], listing: &T) -> Result<usize, Ref
         (λ e. Unit {0}) }
     ensures fits { T.most listing.now ≤ length out.old → is_ok result ≡ true }
 {
-    let needed = length_of(listing);
-    if out.len() < needed {
-        return Err(Refusal::BufferShort(needed));
-    }
+    check_room(out.len(), listing)?;
     let mut page = Page { out, at: 0 };
     listing.put(&mut page);
     Ok(page.at)

@@ -157,3 +157,6 @@ module _ (K : ℕ → Option ℕ) where
   reached_tried {T} r =
       let k = mix_kept r.mix (made_kept r.made) in
       ⊎_elim (λ e. subst (Kept K) e k) (λ e. subst (Kept K) e k) r.ends
+
+  pub reached_full : {T : Trial} → Reaches K T → Full T.sheet
+  reached_full r = (reached_tried r).whole.full

@@ -1,6 +1,6 @@
 -- The answer after evaluation (`judged_over`, `judged_by`), after lawfulness (`answered_by`), and what a granted
--- model says of the things that its names mean (`satisfying_by`).
-use Rattle.std.proofs.Common.{◌≡◌, ℕ, ◌<◌, ◌≤◌, Bool, cond, List, map, length, take, Err, Option, Result, sym, refl, ap, ◌∙◌, subst, ⊎_elim, arith, eq-eqb, le-leb}
+-- model says of the things that its names mean (`satisfies_listed`, `satisfying_by`).
+use Rattle.std.proofs.Common.{◌≡◌, ℕ, ◌<◌, ◌≤◌, Bool, cond, List, map, length, take, Ok, Err, Option, Result, sym, refl, ap, ◌∙◌, subst, ⊎_elim, arith, eq-eqb, le-leb}
 use mathlib.Core.Option as maybe
 use borrow.Author.Tests.{lt-leb}
 use lib.ListN.{length-map}
@@ -12,11 +12,11 @@ use Rattle.records.specs.declared.refusal.Refusal.{Refusal}
 use Rattle.records.specs.declared.refusal.Refusal.TheVariants.{TuplesOver, Unlawful}
 use Rattle.rules.specs.Looked.{row_at}
 use Rattle.meaning.specs.Terms.{Sheet}
-use Rattle.meaning.specs.Meaning.{CodeMeaning, Interp, Value}
-use Rattle.meaning.specs.Model.{rep}
+use Rattle.meaning.specs.Meaning.{CodeMeaning, Interp, Value, Satisfies}
+use Rattle.meaning.specs.Model.{rep, Listed}
 use Rattle.meaning.proofs.Models.{satisfied}
 use Rattle.calls.specs.Reading.{read_row, read_fact, read_sheet}
-use Rattle.calls.specs.Bridge.{read_branch}
+use Rattle.calls.specs.Bridge.{read_branch, Fair}
 use Rattle.calls.specs.Models.{first_bad, name_lawful, tuples_below, tuples_in, first_false, on_constraints, on_names, model_answer}
 use Rattle.calls.proofs.Below.{none_bad}
 use Rattle.calls.proofs.Lawful.{passes}
@@ -84,11 +84,16 @@ module _ (K : CodeMeaning) (codes : List ℕ) (rows : List TermRow) (facts : Lis
 
   -- ── what is granted ──────────────────────────────────────────────────────
 
+  pub satisfies_listed : (free : ℕ) → Fair (sheet_of codes free rows facts m) facts n → length rs ≡ count →
+      model_answer K (read_sheet (sheet_of codes free rows facts m)) (read_branch (sheet_of codes free rows facts m) facts n) count rs ≡ Ok tt →
+      Satisfies (read_sheet (sheet_of codes free rows facts m))
+      (Listed K (read_sheet (sheet_of codes free rows facts m)) rs (map (read_fact rows) facts))
+  satisfies_listed free fair len ok =
+      let P = sheet_of codes free rows facts m in
+      let g = (model_exact K (read_sheet P) (read_branch P facts n) count rs len (omega (arith, fair.named))).0 ok in
+      satisfied K (read_sheet P) n rs g.0 (map (read_fact rows) facts) g.2
+
   -- the answer says so where it is granted
   pub satisfying_by : (r : Result (Unit {0}) Refusal) → Answers K codes rows facts m n count rs r →
       Satisfying K codes rows facts m n count rs r
-  satisfying_by r answers free fair len ok =
-      let P = sheet_of codes free rows facts m in
-      let g = (model_exact K (read_sheet P) (read_branch P facts n) count rs len (omega (arith, fair.named))).0
-      (sym (answers free fair len) ∙ ok) in
-      satisfied K (read_sheet P) n rs g.0 (map (read_fact rows) facts) g.2
+  satisfying_by r answers free fair len ok = satisfies_listed free fair len (sym (answers free fair len) ∙ ok)

@@ -1,4 +1,4 @@
-ghost use Rattle.std.specs.Prelude.{◌≤◌};
+ghost use Rattle.std.specs.Prelude.{◌+◌, ◌≤◌};
 
 pub mod sealing;
 pub mod work;
@@ -12,6 +12,9 @@ pub struct Sheet {
     labels_in: u8,
     terms_in: u8,
     constraints_in: u8,
+    ghost names_few: { sizes.labels + sizes.free ≤ 32 },
+    ghost terms_few: { sizes.terms ≤ 64 },
+    ghost constraints_few: { sizes.constraints ≤ 128 },
     ghost labels_whole: { labels_in ≤ sizes.labels },
     ghost terms_whole: { terms_in ≤ sizes.terms },
     ghost constraints_whole: { constraints_in ≤ sizes.constraints },

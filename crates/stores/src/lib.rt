@@ -27,7 +27,7 @@ pub fn large_enough(stores: &Stores) -> bool
         && stores.representatives.len() >= 64
 }
 
-impl Stores<'_> {
+impl Stores<'_, '_> {
     // Writes the code of label n. (A writer for each store: each has its own elements, so that one for all would be
     // no plainer.)
     pub fn put_label(&mut self, n: usize, code: u32)

@@ -1,6 +1,7 @@
 -- A stream's records, one by one: the first, and those of what comes after it.
-use Rattle.std.proofs.Common.{◌≡◌, ℕ, zero, suc, ◌+◌, ◌-◌, ◌<◌, ◌≤◌, Bool, true, false, cond, ltb, List, [], ◌∷◌, length, drop, refl, ap, ◌∙◌, arith, length-drop}
+use Rattle.std.proofs.Common.{◌≡◌, ℕ, zero, suc, ◌+◌, ◌-◌, ◌<◌, ◌≤◌, Bool, true, false, cond, ltb, List, [], ◌∷◌, length, take, drop, refl, ap, ◌∙◌, arith, length-drop}
 use native.Mathlib.Numerals.{unary_clauses}
+use Rattle.std.proofs.lemmas.List.{take_all}
 use Rattle.records.specs.Reading.{byte}
 use Rattle.streams.specs.Cutting.{begins, step_size, said_size}
 use Rattle.streams.specs.Cutting.{record_size, first_record, after_first, cut, records_of, due_of, later_of}
@@ -11,6 +12,10 @@ cut_drop zero [] = refl
 cut_drop (suc n) [] = refl
 cut_drop zero (b ∷ bs) = refl
 cut_drop (suc n) (b ∷ bs) = cut_drop n bs
+
+-- what is left of the list after its first n
+pub rest_cut : (n : ℕ) (xs : List ℕ) → take (length xs - n) (drop n xs) ≡ drop n xs
+rest_cut n xs = take_all (length xs - n) (drop n xs) (omega (arith, length-drop n xs))
 
 -- either of two positive numbers is positive
 either : (c : Bool) (x y : ℕ) → 1 ≤ x → 1 ≤ y → 1 ≤ cond c x y

@@ -1,4 +1,4 @@
-ghost use Rattle.std.specs.Prelude.{◌≤◌};
+ghost use Rattle.std.specs.Prelude.{◌+◌, ◌≤◌};
 
 mod fronts;
 
@@ -16,6 +16,9 @@ pub(crate) struct Progress {
     pub(crate) forks: u8,
     pub(crate) granted: u32,
     pub(crate) denied: u16,
+    ghost names_few: { sizes.labels + sizes.free ≤ 32 },
+    ghost terms_few: { sizes.terms ≤ 64 },
+    ghost constraints_few: { sizes.constraints ≤ 128 },
     ghost few_names: { names ≤ 64 },
     ghost few_facts: { facts ≤ 1024 },
     ghost few_forks: { forks ≤ 64 },

@@ -1,6 +1,7 @@
 -- Lists as sets: what putting in leaves (`puts_old`, `puts_new`, `puts_from`, `apart_puts`), and that a list
 -- without repetition is not longer than one with all its elements (`not_longer`).
-use Rattle.std.proofs.Common.{◌≡◌, ℕ, zero, suc, ◌<◌, ◌≤◌, Bool, true, false, cond, ◌⊎◌, List, [], ◌∷◌, ◌++◌, length, get_or, Decides, sym, refl, ap, ◌∙◌, subst, inl, inr, ⊎_elim, arith, length-append}
+use Rattle.std.proofs.Common.{◌≡◌, ℕ, zero, suc, ◌<◌, ◌≤◌, Bool, true, false, cond, ◌||◌, ◌⊎◌, List, [], ◌∷◌, ◌++◌, length, get_or, Decides, sym, refl, ap, ◌∙◌, subst, inl, inr, ⊎_elim, arith, length-append}
+use Rattle.std.proofs.lemmas.List.Folds.{list_any-append}
 use Rattle.std.proofs.lemmas.Bool.{or_cases, or_left, or_right, cases_Bool, both_ways}
 use Rattle.values.specs.Sets.{has, put, puts, In, Apart}
 
@@ -59,6 +60,10 @@ module _ {X : Type 0} where
       omega arith
 
 module _ {X : Type 0} (e : X → X → Bool) where
+  pub has_push : (v : List X) (x t : X) → has e v t ≡ false → e x t ≡ false → has e (v ++ x ∷ []) t ≡ false
+  has_push v x t h k =
+      list_any-append (λ y. e y t) v (x ∷ []) ∙ ap (λ b. b || (e x t || false)) h ∙ ap (λ b. b || false) k
+
   pub length-put : (v : List X) (t : X) → length v ≤ length (put e v t)
   length-put v t =
       elim (has e v t) as (λ b. length v ≤ length (cond b v (v ++ t ∷ []))) [ true ↦ omega arith | false ↦ omega (arith, length-append v (t ∷ [])) ]

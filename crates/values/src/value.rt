@@ -46,11 +46,17 @@ fn link(x: Tuple, p: u8, y: Tuple) -> Option<Tuple>
     }
 }
 
-// Whether t is one of the tuples.
+// Whether t is one of the tuples. (A loop: with the library's `contains` or `any`, models that look many tuples up took
+// longer.)
 pub fn contains(tuples: &[Tuple], t: Tuple) -> bool
     ensures { result ≡ has equal_names tuples.now t }
 {
-    tuples.contains(&t)
+    for x in tuples {
+        if *x == t {
+            return true;
+        }
+    }
+    false
 }
 
 impl<'a> Value<'a> {
@@ -124,16 +130,26 @@ impl<'a> Value<'a> {
         }
     }
 
+    // Puts t in; nothing where there is no room.
+    fn add(&mut self, t: Tuple) -> Option<()>
+        ensures filled { Filled (length self.old.slots.now)
+            (put equal_names (held self.old) t) (held self.new) result }
+        ensures same { SameSlots self.old self.new }
+    {
+        self.insert(t)?;
+        Some(())
+    }
+
     // Puts a tuple in, if there is one; nothing where there is no room.
     pub fn offer(&mut self, o: Option<Tuple>) -> Option<()>
         ensures filled { Filled (length self.old.slots.now)
             (puts equal_names (held self.old) (listed o)) (held self.new) result }
         ensures same { SameSlots self.old self.new }
     {
-        if let Some(t) = o {
-            self.insert(t)?;
+        match o {
+            Some(t) => self.add(t),
+            None => Some(()),
         }
-        Some(())
     }
 
     // Puts in what each element of a list makes, in their order; nothing where there is no room.

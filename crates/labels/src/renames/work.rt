@@ -1,4 +1,4 @@
-ghost use Rattle.std.specs.Prelude.{◌≡◌, ◌==◌, ℕ, [], find};
+ghost use Rattle.std.specs.Prelude.{◌≡◌, ◌==◌, ℕ, []};
 ghost use Rattle.std.proofs.Math.Option.{Option};
 ghost use Rattle.labels.specs.Kinds.{known_by, sameness_by};
 ghost use Rattle.labels.specs.Renames.{target, held_old, held_pairs, kind_below, rename_answer, rename_pairs};
@@ -22,18 +22,18 @@ impl<K> Renames<K> {
         }
     }
 
-    // The pair that has this old code.
-    fn find_old(&self, code: u32) -> Option<Pair>
-        ensures { result ≡ find (λ p. p.old == code) (held_pairs self.now) }
-    {
-        self.pairs.iter().copied().find(|pair| pair.old == code)
-    }
-
     // What the pairs make of a code: the new code of the pair that has it as its old one, or the code itself.
+    // (A loop: by the library's `find`, in two forms, a search over many codes took twice as long.)
     fn target(&self, code: u32) -> u32
         ensures { result ≡ target (held_pairs self.now) code }
     {
-        self.find_old(code).map_or(code, |pair| pair.new)
+        let pairs = self.pairs.as_slice();
+        for pair in pairs {
+            if pair.old == code {
+                return pair.new;
+            }
+        }
+        code
     }
 
     // Whether a pair has this old code.
@@ -72,6 +72,10 @@ impl<K: Kind> Kind for Renames<K> {
     }
 
     fn same(&self, a: u32, b: u32) -> Result<bool, NoValue> {
+        // Without pairs nothing is looked up: in a search over many codes that shows.
+        if self.pairs.is_empty() {
+            return self.below.same(a, b);
+        }
         let x = self.target(a);
         let y = self.target(b);
         if !self.below.known(x) {

@@ -1,6 +1,6 @@
 // The start of a trial.
 ghost use Rattle.std.specs.Prelude.{◌≡◌};
-ghost use Rattle.sheets.specs.Seals.{begun};
+ghost use Rattle.sheets.specs.Seals.{begun, Few};
 ghost use Rattle.trials.specs.View.{counts};
 
 use super::Trial;
@@ -12,6 +12,7 @@ impl Trial {
     // The trial of a full sheet, before its first step: the sheet's names are the branch's, and its
     // constraints are the first facts.
     pub(crate) fn begin(sizes: Sizes) -> Trial
+        requires { Few sizes }
         ensures { counts result ≡ begun sizes }
     {
         Trial {
