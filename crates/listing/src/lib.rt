@@ -1,5 +1,5 @@
-//! The lines of a settled trial, and of a refusal, written at the front of a lent buffer. The length is found
-//! first: where it does not fit, nothing is written, and the refusal names it.
+//! The lines of a settled trial, and of a refusal, written at the front of a lent buffer. Where they do not fit,
+//! nothing is written, and the refusal names the length that they need.
 #![tactic(auto)]
 
 ghost use Rattle.std.specs.Prelude.{◌≡◌, ◌≤◌, true, [], ◌∷◌, length, take, is_ok, IfOk, MatchResult};
